@@ -6,19 +6,20 @@ from __future__ import annotations
 
 import argparse
 import sys
-from typing import Any, Iterator, Set
+from typing import Any, Iterator, Set, Union
 
 import frames
 import tree
 from check import RECURSION_LIMIT, Program, check
-from left_out import nodes_of_constants
+from evaluate import ConstantEvaluator
 from meanings import Constant
 from scan import Refusal
 from tree import walk
-from type_table import TypeTable
 
 MOST_BYTES = 1_040_384
 WORD_BYTES = 4
+HANDLE_BYTES = 8
+"""A length and an address."""
 FEW_TEXTS = 512
 """So many texts and constants count no word more."""
 GIVEN_EXCEPTIONS = (b'CatchableError', b'ValueError', b'IOError', b'OSError', b'KeyError', b'EOFError')
@@ -31,9 +32,10 @@ def text_bytes(text: bytes) -> int:
 
 def data_bytes(program: Program) -> int:
     names = [member.encode('latin-1') for declared in program.types.declared.values() for member in declared.members]
-    counted = _texts(program) | _read_in_place(program)
-    further = WORD_BYTES * max(0, len(counted) - FEW_TEXTS)
-    return _globals(program) + sum(map(text_bytes, [*GIVEN_EXCEPTIONS, *names])) + sum(map(text_bytes, counted)) + further
+    counted = _Counted(program)
+    further = WORD_BYTES * max(0, len(counted.texts) - FEW_TEXTS)
+    return (_globals(program) + sum(map(text_bytes, [*GIVEN_EXCEPTIONS, *names])) + sum(map(text_bytes, counted.texts)) + further
+            + counted.linked)
 
 
 def _globals(program: Program) -> int:
@@ -43,18 +45,61 @@ def _globals(program: Program) -> int:
                for definition in definitions for variable in definition.variables or [] if variable.is_global)
 
 
-def _texts(program: Program) -> Set[bytes]:
-    """The distinct texts of literals and of constants where they are used."""
-    in_constants = {id(node) for node in nodes_of_constants(program)}
-    texts: Set[bytes] = set()
-    for node in walk(program.statements):
-        if id(node) in in_constants:
-            continue
-        if isinstance(node, tree.TextLiteral):
-            texts.add(node.value)
-        elif isinstance(node, tree.Name) and isinstance(node.declaration, Constant):
-            texts.update(_texts_of(node.declaration.value))
-    return texts
+class _Counted(frames.Sums):
+    """Texts and constants of all bodies, where they are used."""
+
+    def __init__(self, program: Program):
+        super().__init__(program.types)
+        self.constants = ConstantEvaluator(program.types)
+        self.texts: Set[bytes] = set()
+        """The distinct texts, and the bytes of constants without texts or sequences in them that are read in place."""
+        self.linked = 0
+        """What those with texts or sequences in them have beside the texts, at each use, and twice where one is read in place."""
+        self.block(program.statements)
+        for procedure in program.procedures:
+            if procedure.body is not None:
+                self.body(procedure)
+
+    def statement(self, statement: tree.Statement) -> int:
+        if isinstance(statement, tree.Case):
+            self.labels(statement)
+        return super().statement(statement)
+
+    def parts(self, inner: tree.Expression) -> int:
+        if isinstance(inner, tree.TextLiteral):
+            self.texts.add(inner.value)
+        elif isinstance(inner, tree.Name) and isinstance(inner.declaration, Constant):
+            self.used(inner.declaration, 1)
+        elif isinstance(inner, tree.CaseExpression):
+            self.labels(inner)
+        return super().parts(inner)
+
+    def constant(self, constant: Constant) -> int:
+        self.used(constant, 2)
+        if not self.types.owns_blocks(self.types.resolved(constant.type)):
+            self.texts.add(_bytes_of(constant.value))
+        return super().constant(constant)
+
+    def labels(self, case: Union[tree.Case, tree.CaseExpression]) -> None:
+        self.texts.update(value for ranges in case.ranges for values in ranges for value in values if isinstance(value, bytes))
+
+    def used(self, constant: Constant, times: int) -> None:
+        self.texts.update(_texts_of(constant.value))
+        if self.types.owns_blocks(self.types.resolved(constant.type)) and not isinstance(constant.value, bytes):
+            self.linked += times * (HANDLE_BYTES + self.linked_bytes(constant.value, constant.type))
+
+    def linked_bytes(self, value: Any, type_number: int) -> int:
+        """Of a part: its words, and those of the elements of a sequence, which stand behind a handle of their own."""
+        type_number = self.types.resolved(type_number)
+        while self.types.kind(type_number) == 'distinct':
+            type_number = self.types.resolved(self.types.base(type_number))
+        if isinstance(value, bytes):
+            return HANDLE_BYTES
+        if not isinstance(value, list):
+            return WORD_BYTES
+        part_types = self.constants.part_types(self.types.forms[type_number], value)
+        parts = sum(map(self.linked_bytes, value, part_types))
+        return 2 * HANDLE_BYTES + parts if self.types.kind(type_number) == 'seq' else parts or WORD_BYTES
 
 
 def _texts_of(value: Any) -> Iterator[bytes]:
@@ -65,32 +110,8 @@ def _texts_of(value: Any) -> Iterator[bytes]:
             yield from _texts_of(part)
 
 
-class _Constants(frames.Sums):
-    """Those that are read in place, by their bytes, but for texts."""
-
-    def __init__(self, types: TypeTable):
-        super().__init__(types)
-        self.found: Set[bytes] = set()
-
-    def constant(self, constant: Constant) -> int:
-        if not isinstance(constant.value, bytes):
-            self.found.add(_bytes_of(constant.value))
-        return super().constant(constant)
-
-
-def _read_in_place(program: Program) -> Set[bytes]:
-    constants = _Constants(program.types)
-    constants.block(program.statements)
-    for procedure in program.procedures:
-        if procedure.body is not None:
-            constants.body(procedure)
-    return constants.found
-
-
 def _bytes_of(value: Any) -> bytes:
-    """A word for each number, the lowest byte first, and for what has no parts. A text has none yet."""
-    if isinstance(value, bytes):
-        return b''
+    """A word for each number, the lowest byte first, and for what has no parts."""
     if isinstance(value, list):
         return b''.join(map(_bytes_of, value)) if value else bytes(WORD_BYTES)
     return (int(value) % 2 ** (8 * WORD_BYTES)).to_bytes(WORD_BYTES, 'little')

@@ -12,10 +12,9 @@ from typing import Iterator, Optional
 
 import tree
 from check import RECURSION_LIMIT, Program, check
-from meanings import READ_LINE, BuiltInCall, Constant
+from meanings import READ_LINE, BuiltInCall
 from scan import Position
 from tree import place_of, walk
-from type_table import TypeTable
 
 
 def first_left_out(program: Program) -> Optional[Position]:
@@ -25,7 +24,7 @@ def first_left_out(program: Program) -> Optional[Position]:
 def _left_out(program: Program) -> Iterator[Position]:
     outside = {id(node) for node in nodes_outside(program)}
     for node in walk(program.statements):
-        if id(node) not in outside and isinstance(node, tree.Expression) and is_left_out(program.types, node):
+        if id(node) not in outside and is_left_out(node):
             yield place_of(node)
 
 
@@ -46,11 +45,8 @@ def nodes_of_constants(program: Program) -> Iterator[tree.Node]:
             yield from walk(node.definitions)
 
 
-def is_left_out(types: TypeTable, node: tree.Expression) -> bool:
+def is_left_out(node: tree.Node) -> bool:
     """Whether the form that the node is has no code, whatever its parts are."""
-    if isinstance(node, tree.Name):
-        constant = node.declaration
-        return isinstance(constant, Constant) and not isinstance(constant.value, bytes) and types.owns_blocks(constant.type)
     meaning = node.meaning if isinstance(node, (tree.Call, tree.Dot)) else None
     return isinstance(meaning, BuiltInCall) and meaning.name == READ_LINE and len(meaning.arguments) == 1
 

@@ -157,7 +157,7 @@ class Operands(Owner):
 
     def name(self, name: tree.Name) -> Any:
         if isinstance(name.declaration, Constant):
-            return self.built(name.declaration.value, name.type)
+            return self.copied(self.standing(name.declaration.value, name.type), name.type)
         container, key = self.locations(name.declaration)[name.declaration]
         return self.copied(container[key], name.type)
 

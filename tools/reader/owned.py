@@ -126,18 +126,6 @@ class Owner(Evaluator):
             return copy_of(value)
         return [self.standing(part, part_type) for part, part_type in zip(value, self.part_types_of(type_number))]
 
-    def built(self, value: Any, type_number: int) -> Any:
-        """A constant as a value of its own, made as its expression would make it: parts first."""
-        type_number = self.stripped(type_number)
-        kind = self.types.kind(type_number)
-        if kind == 'string':
-            return self.new_text(value)
-        if kind == 'seq':
-            return self.new_sequence(type_number, [self.built(part, self.element_of(type_number)) for part in value])
-        if not self.owns_blocks(type_number):
-            return copy_of(value)
-        return [self.built(part, part_type) for part, part_type in zip(value, self.part_types_of(type_number))]
-
     def copied(self, value: Any, type_number: int) -> Any:
         """A copy for a new place. A sequence takes its block before those of its elements."""
         type_number = self.stripped(type_number)

@@ -2,10 +2,10 @@
 from __future__ import annotations
 
 import random
-from typing import Callable, Dict, List, Optional, Tuple
+from typing import Callable, Dict, List, Optional, Set, Tuple
 
 import random_parts
-from random_parts import ELEMENTS, FIELDS, SEQUENCES, Procedure, Scope, Variable
+from random_parts import DISTINCT, ELEMENTS, FIELDS, SEQUENCES, Procedure, Scope, Variable
 from random_statements import INDENT, Lines, StatementMaker, indented
 
 TYPES_DECLARED: Dict[str, str] = {
@@ -20,6 +20,7 @@ TYPES_DECLARED: Dict[str, str] = {
 }
 """Each stands behind those that it names."""
 
+OBJECTS = [name for name, said in TYPES_DECLARED.items() if said.startswith('object')]
 PROCEDURES_OF_TYPES = {
     'Mark': 'proc `==`(a, b: Mark): bool {.borrow.}\nproc `$`(m: Mark): string {.borrow.}\n',
     'Person': 'proc `$`(p: Person): string = p.name & ":" & $p.age & "#" & $p.tags.len\n',
@@ -39,6 +40,12 @@ OFTEN_PARAMETERS = [(('var', 'char'), .4), (('', 'string'), .5), (('sink', 'stri
 LITERAL_ARGUMENT = .5
 LITERAL_LOOP = .3
 NOTHING = 'discard'
+CONSTANTS = [0, 1, 2, 2, 3]
+"""How many constants with strings or sequences in them a program may have at its beginning."""
+CONSTANT_IN_BLOCK = .05
+EARLIER_CONSTANT = .25
+COUNTS_IN_CONSTANTS = [0, 1, 1, 2, 2, 3]
+NUMBERS_IN_CONSTANTS = ['0', '1', '2', '7', '-1', '40', 'low(int)', 'high(int)']
 MOST_STATEMENTS = 12
 """Of a program, but for those that do nothing."""
 
@@ -68,21 +75,25 @@ def head(text: str) -> str:
 
 
 class BuiltMaker(StatementMaker):
-    """What is left out isn't made: constants with strings in them, but for one that is a string. Literals are handed over, measured,
-    gone through and read by an index."""
+    """Literals are handed over, measured, gone through and read by an index; constants with strings and sequences in them are read as
+    variables are."""
 
     def __init__(self, generator: random.Random):
         super().__init__(generator)
         self.statements_left = MOST_STATEMENTS
+        self.constants: Set[str] = set()
 
     def program(self) -> str:
         procedures: List[Procedure] = []
-        variables: List[Variable] = []
+        constants: List[Variable] = []
         lines: Lines = []
+        for _ in range(self.random.choice(CONSTANTS)):
+            lines += self.constant(constants)
+        variables = list(constants)
         for _ in range(self.random.randrange(1, 4)):
             lines += self.declaration(Scope(variables, procedures), variables)
         for _ in range(self.random.choice([0, 1, 1, 2])):
-            lines += self.procedure(procedures, list(variables) if self.random.random() < .3 else [])
+            lines += self.procedure(procedures, list(variables) if self.random.random() < .3 else list(constants))
         scope = Scope(variables, procedures)
         for _ in range(self.random.randrange(2, 6)):
             lines += self.statement(scope, 0)
@@ -129,7 +140,41 @@ class BuiltMaker(StatementMaker):
         shown = {'Mark': 'string(%s)', 'Row': 'seq[int](%s).len'}.get(type_name, '%s') % path
         return ['echo "%s", %s' % ('[' * (depth + 1), shown)]
 
-    # Literals and what is left out
+    # Constants
+
+    def constant(self, variables: List[Variable]) -> Lines:
+        """A variable that nobody writes."""
+        type_name = self.random.choice(random_parts.OWNING)
+        value = self.constant_value(type_name, variables)
+        name = self.new_name()
+        self.constants.add(name)
+        variables.append(Variable(name, type_name, False))
+        return ['const %s: %s = %s' % (name, type_name, value)]
+
+    def constant_value(self, wanted: str, variables: List[Variable]) -> str:
+        """Made of literals, and of constants that stand before."""
+        earlier = [variable.name for variable in variables if variable.type == wanted and variable.name in self.constants]
+        if earlier and self.random.random() < EARLIER_CONSTANT:
+            return self.random.choice(earlier)
+        inner = lambda type_name: self.constant_value(type_name, variables)
+        if wanted == 'int':
+            return self.random.choice(NUMBERS_IN_CONSTANTS)
+        if wanted in DISTINCT:
+            return '%s(%s)' % (wanted, inner(DISTINCT[wanted]))
+        if wanted == 'string':
+            return self.random.choice([self.text_literal, self.text_literal, lambda: self.text_literal() + ' & "z"', lambda: '$' + inner('char')])()
+        if wanted in FIELDS:
+            fields = ['%s: %s' % (field, inner(field_type)) for field, field_type in FIELDS[wanted]]
+            if wanted not in OBJECTS:
+                return '(%s)' % ', '.join(fields)
+            return '%s(%s)' % (wanted, ', '.join(self.random.sample(fields, self.random.randrange(1, len(fields) + 1))))
+        if wanted.startswith('array'):
+            return '[%s, %s]' % (inner(ELEMENTS[wanted]), inner(ELEMENTS[wanted]))
+        if wanted in SEQUENCES:
+            return '@[%s]' % ', '.join(inner(ELEMENTS[wanted]) for _ in range(self.random.choice(COUNTS_IN_CONSTANTS)))
+        return self.literal(wanted)
+
+    # Literals and calls
 
     def literal_text(self) -> str:
         return self.random.choice([self.text_literal(), self.text_literal(), '"\\xff\\x00"', CONSTANT])
@@ -259,6 +304,8 @@ class BuiltMaker(StatementMaker):
         self.statements_left -= 1
         if self.statements_left < 0:
             return [NOTHING]
+        if self.random.random() < CONSTANT_IN_BLOCK:
+            return self.constant(scope.variables)
         if self.random.random() < .5:
             kinds: List[Callable[[Scope, int], Optional[Lines]]] = [self.own_element, self.own_element, self.own_text, self.own_text,
                                                                     self.own_letters, self.own_letters, self.shrunk, self.written_loop]

@@ -16,11 +16,11 @@ use Rattle.flat_code.specs.Fits.{code_fits, start_places}
 use Rattle.flat_code.specs.Lines.{does}
 use Rattle.flat_code.specs.Running.{Proc, ShowsAlike, at_first, runs, run_by}
 use Rattle.flat_code.specs.Scene.{Known, known_in}
-use Rattle.flat_code.specs.Sizes.{code_weight, code_texts, data_bytes, globals_bytes}
+use Rattle.flat_code.specs.Sizes.{code_weight, code_texts, constants_bytes, data_bytes, globals_bytes}
 use Rattle.flat_code.specs.Whole.{label_in}
 use Rattle.program_limits.specs.Data.{data_counted, program_texts, texts_size}
 use Rattle.program_limits.specs.Limits.{program_in}
-use Rattle.flattening.specs.Counted.{program_parts, program_pairs, times, program_times, places_waiting}
+use Rattle.flattening.specs.Counted.{program_parts, program_pairs, times, program_times, program_constants, places_waiting}
 use Rattle.flattening.specs.Flattened.{known_of, code_of, modes_of, flat_meaning, IsExact}
 use Rattle.flattening.specs.Given.{flat_procs, flat_of}
 use Rattle.flat_code.specs.Alike.{AllAlike}
@@ -28,6 +28,7 @@ use Rattle.flat_code.specs.BuiltCode.{AreBuiltProcs}
 use Rattle.flat_code.specs.Leads.{AllLeadRight}
 use Rattle.flat_code.specs.Waits.{AllWaitRight, AllWaitOnce}
 use Rattle.core_compiler.specs.Stages.{ShowsSame, IsFlatOf}
+use Rattle.core_compiler.proofs.ProgramConstants.{constants_are}
 use Rattle.core_compiler.proofs.ProgramTexts.{distinct_most}
 use Rattle.core_compiler.proofs.TableNames.{names_count}
 
@@ -55,6 +56,7 @@ module _ (p : RustProgram) (plan : Plan) (flat : Code Line) (procs : flat.procs 
     (globals : globals_bytes (known_of (program_in p)) (start_places (flat_procs (program_in p) plan))
     ≤ globals_size (program_in p).facts (program_in p).globals)
     (texts : (text : List ℕ) → times text (code_texts flat_plain (flat_procs (program_in p) plan)) ≤ 2 * program_times text (program_in p))
+    (constants : constants_bytes flat_plain (flat_procs (program_in p) plan) ≤ program_constants (program_in p))
     (forms : HaveForms p.types)
     (alike : AllAlike (flat_procs (program_in p) plan)) (built : AreBuiltProcs (known_of (program_in p)) 16384 (flat_procs (program_in p) plan))
     (waits : AllWaitRight flat_plain (known_of (program_in p)) (flat_procs (program_in p) plan))
@@ -118,7 +120,8 @@ module _ (p : RustProgram) (plan : Plan) (flat : Code Line) (procs : flat.procs 
         let own : globals_bytes known (start_places (flat_procs program plan)) ≤ globals_size program.facts program.globals = globals in
         let distinct : texts_size (code_texts flat_plain (flat_procs program plan)) ≤ texts_size (program_texts program) =
         distinct_most program plan texts in
-        subst (λ ps. data_bytes flat_plain p.types ps ≤ data_counted program + 2048) (sym procs) (omega (arith, own, names, distinct))
+        let linked = constants_are program in
+        subst (λ ps. data_bytes flat_plain p.types ps ≤ data_counted program + 2048) (sym procs) (omega (arith, own, names, distinct, constants, linked))
 
     pub is_flat_of : IsFlatOf p.types program plan flat
     is_flat_of = record {

@@ -8,6 +8,7 @@ mod HookBytes
 mod HookForms
 mod PrunedWords
 mod Composing
+mod ProgramConstants
 mod ProgramTexts
 mod Flattened
 mod Shown

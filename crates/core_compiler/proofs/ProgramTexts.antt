@@ -4,7 +4,7 @@ use Rattle.std.proofs.Common.{append-nil, arith}
 use Rattle.std.specs.Int.{w32, cast_unsigned, to_le_bytes}
 use Rattle.std.specs.Prelude.{zero, suc, ◌||◌, if◌then◌else◌}
 use Rattle.std.specs.Set.{is_member}
-use Rattle.std.proofs.lemmas.Bool.{both_ways}
+use Rattle.std.proofs.lemmas.Bool.{both_ways, or_parts}
 use Rattle.nim_types.specs.Types.{same_text}
 use Rattle.nim_plan.specs.declared.plan.Plan.{Plan}
 use Rattle.nim_program.specs.Program.{Literal, Literals, Number, Characters, NoObject, PartsOf, ElementsOf, NoLiteral, ALiteral, Giving, Program}
@@ -19,10 +19,11 @@ use Rattle.flat_code.specs.Sizes.{piece_texts, pieces_texts, standing_texts as p
 use Rattle.flattening.specs.Counted.{label_texts as counted_label, these_texts, branch_texts as counted_branches, chooser_texts as counted_chooser}
 use Rattle.flattening.specs.Counted.{times, part_texts as counted_texts, own_times, body_times, program_times}
 use Rattle.flattening.specs.Given.{flat_procs}
-use Rattle.program_limits.specs.Data.{label_texts, branch_texts, labels_texts, chooser_texts}
+use Rattle.program_limits.specs.Data.{has_links, any_has_links, label_texts, branch_texts, labels_texts, chooser_texts}
 use Rattle.program_limits.specs.Data.{literal_bytes, joined_bytes, literal_texts, all_texts, standing_texts, part_texts, own_texts, body_texts}
 use Rattle.program_limits.specs.Data.{program_texts, texts_size}
 use Rattle.program_limits.proofs.ForCallers.{texts_most}
+use Rattle.core_compiler.proofs.ProgramConstants.{links_are}
 
 -- ---- the texts of one constant, in the same order
 
@@ -46,7 +47,7 @@ mutual
   all_are (ALiteral first rest) =
       append_texts (pieces_of first) (pieces_of_all rest) ∙ ap₂ (λ ts us. ts ++ us) (pieces_are first) (all_are rest)
 
--- ---- the bytes of one that is read in place
+-- ---- the bytes of one that is read in place, without texts or sequences
 
 append_words : (a b : List Piece) → piece_words (a ++ b) ≡ piece_words a ++ piece_words b
 append_words [] b = refl
@@ -55,8 +56,7 @@ append_words (P.Text t ∷ a) b = append_words a b
 append_words (P.Nil ∷ a) b = append_words a b
 append_words (P.Parts zero ∷ a) b = ap (λ ws. 0 ∷ ws) (append_words a b)
 append_words (P.Parts (suc n) ∷ a) b = append_words a b
-append_words (P.Elements zero ∷ a) b = ap (λ ws. 0 ∷ ws) (append_words a b)
-append_words (P.Elements (suc n) ∷ a) b = append_words a b
+append_words (P.Elements n ∷ a) b = append_words a b
 
 append_bytes : (a b : List ℕ) → words_bytes (a ++ b) ≡ words_bytes a ++ words_bytes b
 append_bytes [] b = refl
@@ -66,46 +66,31 @@ append_pieces : (a b : List Piece) → standing_bytes (a ++ b) ≡ standing_byte
 append_pieces a b = ap words_bytes (append_words a b) ∙ append_bytes (piece_words a) (piece_words b)
 
 mutual
-  bytes_are : (l : Literal) → standing_bytes (pieces_of l) ≡ literal_bytes l
-  bytes_are (Number z) = append-nil (to_le_bytes w32 (cast_unsigned w32 z))
-  bytes_are (Characters text) = refl
-  bytes_are NoObject = refl
-  bytes_are (PartsOf NoLiteral) = append-nil (to_le_bytes w32 0)
-  bytes_are (PartsOf (ALiteral first rest)) =
+  bytes_are : (l : Literal) → has_links l ≡ false → standing_bytes (pieces_of l) ≡ literal_bytes l
+  bytes_are (Number z) e = append-nil (to_le_bytes w32 (cast_unsigned w32 z))
+  bytes_are (Characters text) e = refl
+  bytes_are NoObject e = refl
+  bytes_are (PartsOf NoLiteral) e = append-nil (to_le_bytes w32 0)
+  bytes_are (PartsOf (ALiteral first rest)) e =
       append_pieces (pieces_of_all (ALiteral first rest)) (P.Parts (suc (count_of rest)) ∷ [])
-      ∙ append-nil (standing_bytes (pieces_of_all (ALiteral first rest))) ∙ joined_are (ALiteral first rest)
-  bytes_are (ElementsOf NoLiteral) = append-nil (to_le_bytes w32 0)
-  bytes_are (ElementsOf (ALiteral first rest)) =
-      append_pieces (pieces_of_all (ALiteral first rest)) (P.Elements (suc (count_of rest)) ∷ [])
-      ∙ append-nil (standing_bytes (pieces_of_all (ALiteral first rest))) ∙ joined_are (ALiteral first rest)
+      ∙ append-nil (standing_bytes (pieces_of_all (ALiteral first rest))) ∙ joined_are (ALiteral first rest) e
+  bytes_are (ElementsOf all) e = absurd (both_ways true e refl)
 
-  joined_are : (all : Literals) → standing_bytes (pieces_of_all all) ≡ joined_bytes all
-  joined_are NoLiteral = refl
-  joined_are (ALiteral first rest) =
-      append_pieces (pieces_of first) (pieces_of_all rest) ∙ ap₂ (λ bs cs. bs ++ cs) (bytes_are first) (joined_are rest)
+  joined_are : (all : Literals) → any_has_links all ≡ false → standing_bytes (pieces_of_all all) ≡ joined_bytes all
+  joined_are NoLiteral e = refl
+  joined_are (ALiteral first rest) e =
+      let h = or_parts (has_links first) (any_has_links rest) e in
+      append_pieces (pieces_of first) (pieces_of_all rest) ∙ ap₂ (λ bs cs. bs ++ cs) (bytes_are first h.0) (joined_are rest h.1)
 
--- a constant that is read in place is one text, or its bytes and its texts
-
--- behind others no piece is one text
-bare : (pieces : List Piece) (last : Piece) → placed_texts (last ∷ []) ≡ standing_bytes (last ∷ []) ∷ pieces_texts (last ∷ []) →
-    placed_texts (pieces ++ last ∷ []) ≡ standing_bytes (pieces ++ last ∷ []) ∷ pieces_texts (pieces ++ last ∷ [])
-bare [] last alone = alone
-bare (P.Ordinal z ∷ ps) last alone = refl
-bare (P.Text t ∷ []) last alone = refl
-bare (P.Text t ∷ p ∷ ps) last alone = refl
-bare (P.Nil ∷ ps) last alone = refl
-bare (P.Parts m ∷ ps) last alone = refl
-bare (P.Elements m ∷ ps) last alone = refl
-
-both_are : (l : Literal) → standing_bytes (pieces_of l) ∷ pieces_texts (pieces_of l) ≡ literal_bytes l ∷ literal_texts l
-both_are l = ap₂ (λ bytes ts. bytes ∷ ts) (bytes_are l) (pieces_are l)
-
+-- a constant that is read in place is its texts, or the bytes of one without texts or sequences
 standing_are : (l : Literal) → placed_texts (pieces_of l) ≡ standing_texts l
-standing_are (Number z) = both_are (Number z)
-standing_are (Characters text) = refl
-standing_are NoObject = refl
-standing_are (PartsOf all) = bare (pieces_of_all all) (P.Parts (count_of all)) refl ∙ both_are (PartsOf all)
-standing_are (ElementsOf all) = bare (pieces_of_all all) (P.Elements (count_of all)) refl ∙ both_are (ElementsOf all)
+standing_are l =
+    ap (λ b. if b then pieces_texts (pieces_of l) else standing_bytes (pieces_of l) ∷ []) (links_are l) ∙ by (has_links l) (λ e. bytes_are l e)
+  where
+    by : (b : Bool) → (b ≡ false → standing_bytes (pieces_of l) ≡ literal_bytes l) →
+        (if b then pieces_texts (pieces_of l) else standing_bytes (pieces_of l) ∷ []) ≡ (if b then literal_texts l else literal_bytes l ∷ [])
+    by true bytes = pieces_are l
+    by false bytes = ap (λ bs. bs ∷ []) (bytes refl)
 
 -- ---- labels
 

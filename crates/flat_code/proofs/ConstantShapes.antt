@@ -1,7 +1,12 @@
--- A constant of a type is a value of its shape.
-use Rattle.std.proofs.Common.{◌≡◌, ℕ, zero, suc, ◌+◌, Bool, true, false, List, length, Option, Some, None, refl, sym, ap, ◌∙◌, subst, arith}
+-- A constant of a type is a value of its shape, and its pieces are those of that value.
+use Rattle.std.proofs.Common.{◌≡◌, ℕ, zero, suc, ◌+◌, Bool, true, false, List, [], ◌∷◌, ◌++◌, length, Option, Some, None, refl, sym, ap, ap₂, ◌∙◌, subst}
+use Rattle.std.proofs.Common.{arith}
 use Rattle.std.specs.Prelude.{◌&&◌, ◌||◌, ℤ, pos}
-use Rattle.std.proofs.lemmas.Bool.{both_ways, and_parts, and_from, eqb-true}
+use Rattle.std.specs.Ordering.{int_eq}
+use Rattle.std.proofs.lemmas.Bool.{both_ways, and_parts, and_from, eqb-true, eq-eqb}
+use Rattle.std.proofs.lemmas.Int.{ints}
+use Rattle.std.proofs.lemmas.Cmp.{int_eq_equiv, nat_list_eq_equiv}
+use Rattle.std.proofs.lemmas.Slice.Eq.{bytes_eq-Decides}
 use Rattle.nim_types.specs.Types as type
 use Rattle.nim_types.specs.Types.{Ty, Tys, no_types, types, Key, Fact, members, fields, base, below, Facts, fact_of}
 use Rattle.nim_types.specs.Forms as form
@@ -15,7 +20,11 @@ use Rattle.nim_program.specs.Kinds.{TypeKind, plain_kind, is_value, is_text, is_
 use Rattle.nim_program.specs.Kinds.{has_parts, for_some}
 use Rattle.nim_program.specs.Kinds.{count_literals, is_constant, are_constants}
 use Rattle.nim_program.specs.Program.{Literal, Number as Ordinal, Characters, NoObject, PartsOf, ElementsOf, Literals, NoLiteral, ALiteral}
-use Rattle.nim_meaning.specs.Values.{Number, Parts, Fixed, Ref, literal_value, literal_values}
+use Rattle.nim_meaning.specs.Values.{Number, Parts, Fixed, Ref, count, literal_value, literal_values}
+use Rattle.flat_code.specs.declared.line.Piece.{Piece}
+use Rattle.flat_code.specs.declared.line.Piece.TheVariants as P
+use Rattle.flat_code.specs.Pieces.{value_of, count_of, pieces_of, pieces_of_all}
+use Rattle.flat_code.specs.PieceShapes.{pieces_by, each_by, all_by, same_piece, same_pieces, has_pieces}
 use Rattle.flat_code.specs.Shapes.{Shape, number, reference, block, elements, row, parts, resource, Shapes, no_shapes, shapes, object_shape, shape_by}
 use Rattle.flat_code.specs.Shapes.{shape_within, shape_of, has_shape, are_all, are_rows}
 use Rattle.flat_code.specs.Shapes.{have_shapes}
@@ -56,6 +65,65 @@ abbrev mutual
   pub are_simple : Shapes → Bool
   are_simple no_shapes = true
   are_simple (shapes s ss) = is_simple s && are_simple ss
+
+-- ---- pieces
+
+same_refl : (pieces : List Piece) → same_pieces pieces pieces ≡ true
+same_refl [] = refl
+same_refl (P.Ordinal z ∷ pieces) = and_from _ _ (int_eq_equiv.refl z) (same_refl pieces)
+same_refl (P.Text text ∷ pieces) = and_from _ _ (nat_list_eq_equiv.refl text) (same_refl pieces)
+same_refl (P.Nil ∷ pieces) = same_refl pieces
+same_refl (P.Parts n ∷ pieces) = and_from _ _ (eq-eqb n n refl) (same_refl pieces)
+same_refl (P.Elements n ∷ pieces) = and_from _ _ (eq-eqb n n refl) (same_refl pieces)
+
+same_int : (z w : ℤ) → int_eq z w ≡ true → z ≡ w
+same_int z w h = grind (arith, ints)
+
+piece_is : (p q : Piece) → same_piece p q ≡ true → p ≡ q
+piece_is (P.Ordinal z) (P.Ordinal w) h = ap P.Ordinal (same_int z w h)
+piece_is (P.Text text) (P.Text other) h = ap P.Text ((bytes_eq-Decides text other).0 h)
+piece_is P.Nil P.Nil h = refl
+piece_is (P.Parts n) (P.Parts m) h = ap P.Parts (eqb-true n m h)
+piece_is (P.Elements n) (P.Elements m) h = ap P.Elements (eqb-true n m h)
+piece_is p q h = never h
+
+pub pieces_are : (ps qs : List Piece) → same_pieces ps qs ≡ true → ps ≡ qs
+pieces_are [] [] h = refl
+pieces_are [] (q ∷ qs) h = never h
+pieces_are (p ∷ ps) [] h = never h
+pieces_are (p ∷ ps) (q ∷ qs) h =
+    let a = and_parts (same_piece p q) (same_pieces ps qs) h in ap₂ (λ x xs. x ∷ xs) (piece_is p q a.0) (pieces_are ps qs a.1)
+
+-- a value of a shape, and its pieces
+abbrev pub IsOf : Literal → Shape → Type 0
+IsOf l s = (has_shape (literal_value l) s ≡ true) × (pieces_of l ≡ pieces_by (literal_value l) s)
+
+counted : (all : Literals) → count_of all ≡ count (literal_values all)
+counted NoLiteral = refl
+counted (ALiteral first rest) = ap suc (counted rest)
+
+-- of each element or part
+abbrev AreEach : Literals → Shape → Type 0
+AreEach all s = (are_all (literal_values all) s ≡ true) × (pieces_of_all all ≡ each_by (literal_values all) s)
+
+abbrev AreRows : Literals → ℕ → Shape → Type 0
+AreRows all n s = (are_rows (literal_values all) n s ≡ true) × (pieces_of_all all ≡ each_by (literal_values all) s)
+
+abbrev AreParts : Literals → Shapes → Type 0
+AreParts all ss = (have_shapes (literal_values all) ss ≡ true) × (pieces_of_all all ≡ all_by (literal_values all) ss)
+
+whole_of : (all : Literals) (s t : Shape) (each : List Piece) → s ≡ t → has_shape (Parts (literal_values all)) t ≡ true →
+    pieces_by (Parts (literal_values all)) t ≡ each ++ P.Parts (count (literal_values all)) ∷ [] → pieces_of_all all ≡ each → IsOf (PartsOf all) s
+whole_of all s t each m has by pieces = (
+  ap (has_shape (Parts (literal_values all))) m ∙ has,
+  ap₂ (λ ps n. ps ++ P.Parts n ∷ []) pieces (counted all) ∙ sym (ap (pieces_by (Parts (literal_values all))) m ∙ by),
+)
+
+-- so they are what a line's pieces have to be
+pub pieces_fit : (l : Literal) (s : Shape) → value_of (pieces_of l) ≡ literal_value l → IsOf l s → has_pieces s (pieces_of l) ≡ true
+pieces_fit l s value h =
+    and_from _ _ (ap (λ v. has_shape v s) value ∙ h.0)
+    (ap (same_pieces (pieces_of l)) (ap (λ v. pieces_by v s) value ∙ sym h.1) ∙ same_refl (pieces_of l))
 
 module _ (facts : Facts) (sorted : AreSorted facts) where
   -- ---- types without hooks
@@ -167,11 +235,14 @@ module _ (facts : Facts) (sorted : AreSorted facts) where
   -- the elements of a sequence, however many
   elements_right : (all : Literals) →
       ((t : Ty) (f : Form) → HasForm facts t f → (i : ℕ) → is_simple (shape_of facts t) ≡ true → are_constants facts (kind.sequence t) i all ≡ true →
-      are_all (literal_values all) (shape_of facts t) ≡ true) →
+      AreEach all (shape_of facts t)) →
       (k : TypeKind) (s : Shape) → Matches facts k s → PartsHave facts k → is_simple s ≡ true → is_sequence k ≡ true → are_constants facts k 0 all ≡ true →
-      has_shape (Parts (literal_values all)) s ≡ true
+      IsOf (ElementsOf all) s
   elements_right all each (kind.sequence t) s m p simple is h =
-      ap (has_shape (Parts (literal_values all))) m ∙ each t p.0 p.1 0 (sym (ap is_simple m) ∙ simple) h
+      let e = each t p.0 p.1 0 (sym (ap is_simple m) ∙ simple) h in (
+        ap (has_shape (Parts (literal_values all))) m ∙ e.0,
+        ap₂ (λ ps n. ps ++ P.Elements n ∷ []) e.1 (counted all) ∙ sym (ap (pieces_by (Parts (literal_values all))) m),
+      )
   elements_right all each k s m p simple is h = never is
 
   at_part : (o : Option Ty) (t : Ty) (l : Literal) → o ≡ Some t → for_some o (λ ty. is_constant facts ty l) ≡ true → is_constant facts t l ≡ true
@@ -187,23 +258,23 @@ module _ (facts : Facts) (sorted : AreSorted facts) where
   -- parts, by what holds of rows and of fields
   parts_right : (all : Literals) →
       ((t : Ty) (f : Form) → HasForm facts t f → (i m n : ℕ) → n ≡ count_literals all → is_simple (row n (shape_of facts t)) ≡ true →
-      are_constants facts (kind.array m t) i all ≡ true → are_rows (literal_values all) n (shape_of facts t) ≡ true) →
+      are_constants facts (kind.array m t) i all ≡ true → AreRows all n (shape_of facts t)) →
       ((k : TypeKind) (i : ℕ) (ts : Tys) → ((j : ℕ) → part_at k (j + i) ≡ nth_type ts j) → AllHave facts ts → are_simple (shapes_of facts ts) ≡ true →
-      count_types ts ≡ count_literals all → are_constants facts k i all ≡ true → have_shapes (literal_values all) (shapes_of facts ts) ≡ true) →
+      count_types ts ≡ count_literals all → are_constants facts k i all ≡ true → AreParts all (shapes_of facts ts)) →
       (k : TypeKind) (s : Shape) → Matches facts k s → PartsHave facts k → is_simple s ≡ true → has_parts k (count_literals all) ≡ true →
-      are_constants facts k 0 all ≡ true → has_shape (Parts (literal_values all)) s ≡ true
+      are_constants facts k 0 all ≡ true → IsOf (PartsOf all) s
   parts_right all rows parts_of (kind.array n t) s m p simple count h =
-      ap (has_shape (Parts (literal_values all))) m
-      ∙ rows t p.0 p.1 0 n n (eqb-true n (count_literals all) count) (sym (ap is_simple m) ∙ simple) h
+      let r = rows t p.0 p.1 0 n n (eqb-true n (count_literals all) count) (sym (ap is_simple m) ∙ simple) h in
+      whole_of all s (row n (shape_of facts t)) (each_by (literal_values all) (shape_of facts t)) m r.0 refl r.1
   parts_right all rows parts_of (kind.tuple ts) s m p simple count h =
-      ap (has_shape (Parts (literal_values all))) m
-      ∙ parts_of (kind.tuple ts) 0 ts (λ j. ap (nth_type ts) (zero_behind j)) p (sym (ap is_simple m) ∙ simple)
-      (eqb-true (count_types ts) (count_literals all) count) h
+      let r = parts_of (kind.tuple ts) 0 ts (λ j. ap (nth_type ts) (zero_behind j)) p (sym (ap is_simple m) ∙ simple)
+      (eqb-true (count_types ts) (count_literals all) count) h in
+      whole_of all s (parts (shapes_of facts ts)) (all_by (literal_values all) (shapes_of facts ts)) m r.0 refl r.1
   parts_right all rows parts_of (kind.object true ts) s m p simple count h = never (sym (ap is_simple m) ∙ simple)
   parts_right all rows parts_of (kind.object false ts) s m p simple count h =
-      ap (has_shape (Parts (literal_values all))) m
-      ∙ parts_of (kind.object false ts) 0 ts (λ j. ap (nth_type ts) (zero_behind j)) p (sym (ap is_simple m) ∙ simple)
-      (eqb-true (count_types ts) (count_literals all) count) h
+      let r = parts_of (kind.object false ts) 0 ts (λ j. ap (nth_type ts) (zero_behind j)) p (sym (ap is_simple m) ∙ simple)
+      (eqb-true (count_types ts) (count_literals all) count) h in
+      whole_of all s (parts (shapes_of facts ts)) (all_by (literal_values all) (shapes_of facts ts)) m r.0 refl r.1
   parts_right all rows parts_of k s m p simple count h = never count
 
   -- a row has one that is simple where it has any
@@ -211,12 +282,18 @@ module _ (facts : Facts) (sorted : AreSorted facts) where
   one_simple zero s h = refl
   one_simple (suc n) s h = h
 
+  -- a text is one of a text's shape, whoever owns it
+  pub text_shape : {ty : Ty} {f : Form} → HasForm facts ty f → (bytes : List ℕ) → is_constant facts ty (Characters bytes) ≡ true →
+      IsOf (Characters bytes) (shape_of facts ty)
+  text_shape {ty} has bytes h = (text_right (plain_kind facts ty) (shape_of facts ty) bytes (plain_shaped facts sorted has).matches h, refl)
+
   mutual
     pub constant_shape : {ty : Ty} {f : Form} → HasForm facts ty f → is_simple (shape_of facts ty) ≡ true → (l : Literal) → is_constant facts ty l ≡ true →
-        has_shape (literal_value l) (shape_of facts ty) ≡ true
-    constant_shape {ty} has simple (Ordinal z) h = number_right (plain_kind facts ty) (shape_of facts ty) z (plain_shaped facts sorted has).matches h
-    constant_shape {ty} has simple (Characters bytes) h = text_right (plain_kind facts ty) (shape_of facts ty) bytes (plain_shaped facts sorted has).matches h
-    constant_shape {ty} has simple NoObject h = nil_right (plain_kind facts ty) (shape_of facts ty) (plain_shaped facts sorted has).matches h
+        IsOf l (shape_of facts ty)
+    constant_shape {ty} has simple (Ordinal z) h =
+        (number_right (plain_kind facts ty) (shape_of facts ty) z (plain_shaped facts sorted has).matches h, refl)
+    constant_shape {ty} has simple (Characters bytes) h = text_shape has bytes h
+    constant_shape {ty} has simple NoObject h = (nil_right (plain_kind facts ty) (shape_of facts ty) (plain_shaped facts sorted has).matches h, refl)
     constant_shape {ty} has simple (PartsOf all) h =
         let q = and_parts (has_parts (plain_kind facts ty) (count_literals all)) (are_constants facts (plain_kind facts ty) 0 all) h in
         let p = plain_shaped facts sorted has in
@@ -231,42 +308,41 @@ module _ (facts : Facts) (sorted : AreSorted facts) where
         (and_parts (is_sequence k) (fits (pos (count_literals all))) q.0).0 q.1
 
     element_values : {t : Ty} {f : Form} → HasForm facts t f → (i : ℕ) (all : Literals) → is_simple (shape_of facts t) ≡ true →
-        are_constants facts (kind.sequence t) i all ≡ true → are_all (literal_values all) (shape_of facts t) ≡ true
-    element_values has i NoLiteral simple h = refl
+        are_constants facts (kind.sequence t) i all ≡ true → AreEach all (shape_of facts t)
+    element_values has i NoLiteral simple h = (refl, refl)
     element_values {t} has i (ALiteral first rest) simple h =
         let q = and_parts (is_constant facts t first) (are_constants facts (kind.sequence t) (suc i) rest) h in
-        and_from _ _ (constant_shape has simple first q.0) (element_values has (suc i) rest simple q.1)
+        let one = constant_shape has simple first q.0 in
+        let more = element_values has (suc i) rest simple q.1 in
+        (and_from _ _ one.0 more.0, ap₂ (λ ps qs. ps ++ qs) one.1 more.1)
 
     row_values : {t : Ty} {f : Form} → HasForm facts t f → (i m n : ℕ) (all : Literals) → n ≡ count_literals all → is_simple (row n (shape_of facts t)) ≡ true →
-        are_constants facts (kind.array m t) i all ≡ true → are_rows (literal_values all) n (shape_of facts t) ≡ true
-    row_values has i m zero NoLiteral count simple h = refl
+        are_constants facts (kind.array m t) i all ≡ true → AreRows all n (shape_of facts t)
+    row_values has i m zero NoLiteral count simple h = (refl, refl)
     row_values has i m (suc n) NoLiteral count simple h = absurd (omega (arith, count))
     row_values has i m zero (ALiteral first rest) count simple h = absurd (omega (arith, count))
     row_values {t} has i m (suc n) (ALiteral first rest) count simple h =
         let q = and_parts (is_constant facts t first) (are_constants facts (kind.array m t) (suc i) rest) h in
-        and_from _ _ (constant_shape has simple first q.0)
-        (row_values has (suc i) m n rest (omega (arith, count)) (one_simple n (shape_of facts t) simple) q.1)
+        let one = constant_shape has simple first q.0 in
+        let more = row_values has (suc i) m n rest (omega (arith, count)) (one_simple n (shape_of facts t) simple) q.1 in
+        (and_from _ _ one.0 more.0, ap₂ (λ ps qs. ps ++ qs) one.1 more.1)
 
     part_values : (k : TypeKind) (i : ℕ) (ts : Tys) (all : Literals) → ((j : ℕ) → part_at k (j + i) ≡ nth_type ts j) → AllHave facts ts →
         are_simple (shapes_of facts ts) ≡ true → count_types ts ≡ count_literals all → are_constants facts k i all ≡ true →
-        have_shapes (literal_values all) (shapes_of facts ts) ≡ true
-    part_values k i no_types NoLiteral same have simple count h = refl
+        AreParts all (shapes_of facts ts)
+    part_values k i no_types NoLiteral same have simple count h = (refl, refl)
     part_values k i (types t ts) NoLiteral same have simple count h = absurd (omega (arith, count))
     part_values k i no_types (ALiteral first rest) same have simple count h = absurd (omega (arith, count))
     part_values k i (types t ts) (ALiteral first rest) same have simple count h =
         let q = and_parts (for_some (part_at k i) (λ ty. is_constant facts ty first)) (are_constants facts k (suc i) rest) h in
         let one = at_part (part_at k i) t first (ap (part_at k) (here_at i) ∙ same 0) q.0 in
         let u = and_parts (is_simple (shape_of facts t)) (are_simple (shapes_of facts ts)) simple in
-        and_from _ _ (constant_shape have.0.1 u.0 first one)
-        (part_values k (suc i) ts rest (λ j. ap (part_at k) (next i j) ∙ same (suc j)) have.1 u.1 (omega (arith, count)) q.1)
+        let first_is = constant_shape have.0.1 u.0 first one in
+        let more = part_values k (suc i) ts rest (λ j. ap (part_at k) (next i j) ∙ same (suc j)) have.1 u.1 (omega (arith, count)) q.1 in
+        (and_from _ _ first_is.0 more.0, ap₂ (λ ps qs. ps ++ qs) first_is.1 more.1)
       where
         here_at : (i : ℕ) → i ≡ 0 + i
         here_at i = omega arith
 
         next : (i j : ℕ) → j + suc i ≡ suc j + i
         next i j = omega arith
-
-  -- a text is one of a text's shape, whoever owns it
-  pub text_shape : {ty : Ty} {f : Form} → HasForm facts ty f → (bytes : List ℕ) → is_constant facts ty (Characters bytes) ≡ true →
-      has_shape (Fixed bytes) (shape_of facts ty) ≡ true
-  text_shape {ty} has bytes h = text_right (plain_kind facts ty) (shape_of facts ty) bytes (plain_shaped facts sorted has).matches h

@@ -9,4 +9,4 @@ pub use Rattle.flat_code.proofs.KeptForms.{form_by_lines}
 pub use Rattle.flat_code.proofs.ShapeDepths.{IsSorted, AreSorted}
 pub use Rattle.flat_code.proofs.SortedTables.{sorted_table}
 pub use Rattle.flat_code.proofs.ShapeKinds.{shapes_of, Matches, AllHave, PartsHave, Shaped, shaped, plain_shaped}
-pub use Rattle.flat_code.proofs.ConstantShapes.{is_free, are_free, free_of, is_simple, simple_of, constant_shape, text_shape}
+pub use Rattle.flat_code.proofs.ConstantShapes.{is_free, are_free, free_of, is_simple, simple_of, IsOf, constant_shape, text_shape, pieces_are, pieces_fit}

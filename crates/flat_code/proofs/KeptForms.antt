@@ -16,7 +16,7 @@ use Rattle.flat_code.specs.Fits.{Signature, signature_of, fits, all_fit, has_lin
 use Rattle.flat_code.specs.Fits.{are_none, params_at, results_at}
 use Rattle.flat_code.specs.Waits.{waits_right, all_wait_right, AllWaitRight}
 use Rattle.flat_code.specs.Sizes.{summed, weight, proc_weight, texts_in, lines_texts, code_weight, code_texts, data_bytes, globals_bytes, handled_bytes}
-use Rattle.flat_code.specs.Sizes.{names_bytes}
+use Rattle.flat_code.specs.Sizes.{names_bytes, linked_in, constants_bytes}
 use Rattle.flat_code.specs.Codes.{proc_of, lines_in, each_line, by_lines, KeepsForm}
 use Rattle.flat_code.proofs.LineMaps.{in_proc, before_last_map, label_map}
 use Rattle.flat_code.proofs.ByLines.{procs_by_lines}
@@ -54,6 +54,10 @@ module _ {L M : Type 0} (f : L → M) (plain : L → Line) (plain' : M → Line)
   texts [] = refl
   texts (p ∷ procs) = ap₂ (λ ts us. ts ++ us) (own_texts p.lines) (texts procs)
 
+  constants : (procs : List (CodeProc L)) → constants_bytes plain' (map (each_line f) procs) ≡ constants_bytes plain procs
+  constants [] = refl
+  constants (p ∷ procs) = ap₂ (λ m n. m + n) (sums linked_in p.lines) (constants procs)
+
   lines_same : (procs : List (CodeProc L)) → lines_in (map (each_line f) procs) ≡ lines_in procs
   lines_same [] = refl
   lines_same (p ∷ procs) = ap₂ (λ m n. m + n) (length_map f p.lines) (lines_same procs)
@@ -65,7 +69,8 @@ module _ {L M : Type 0} (f : L → M) (plain : L → Line) (plain' : M → Line)
 
   data_same : (table : List TypeDef) (procs : List (CodeProc L)) → data_bytes plain' table (map (each_line f) procs) ≡ data_bytes plain table procs
   data_same table procs =
-      ap₂ (λ places ts. globals_bytes (known_in table) places + (names_bytes table + handled_bytes (unique_keys same_text ts))) (starts procs) (texts procs)
+      ap₂ (λ places n. globals_bytes (known_in table) places + (names_bytes table + n)) (starts procs)
+      (ap₂ (λ ts n. handled_bytes (unique_keys same_text ts) + n) (texts procs) (constants procs))
 
   -- ---- labels
 

@@ -12,7 +12,7 @@ use Rattle.nim_program.specs.Ints.{fits as is_int_number}
 use Rattle.nim_program.specs.Fitting as table
 use Rattle.nim_program.specs.Fitting.{building_fits, places_in}
 use Rattle.nim_program.specs.Kinds.{TypeKind, kind_of, kind_if, is_int, is_bool, is_ordinal, is_text, has_length, field_at, element_of, object_of, is_of}
-use Rattle.nim_program.specs.Kinds.{same_value}
+use Rattle.nim_program.specs.Kinds.{is_selected, same_value}
 use Rattle.nim_program.specs.View.{if_type}
 use Rattle.nim_program.specs.declared.operation.Use.{Use}
 use Rattle.nim_program.specs.Uses.{use_by}
@@ -32,10 +32,11 @@ use Rattle.flat_code.specs.declared.place.PlaceKind.{PlaceKind}
 use Rattle.flat_code.specs.declared.place.PlaceKind.TheVariants as K
 use Rattle.flat_code.specs.declared.place.FlatPlace.{FlatPlace}
 use Rattle.nim_meaning.specs.LeftOut.{is_exception_type}
-use Rattle.flat_code.specs.Pieces.{value_of, are_one, is_one_text}
+use Rattle.flat_code.specs.Pieces.{are_one}
 use Rattle.flat_code.specs.Running.{before_last}
 use Rattle.flat_code.specs.Scene.{Known}
-use Rattle.flat_code.specs.Shapes.{shape_of, has_shape}
+use Rattle.flat_code.specs.PieceShapes.{has_pieces}
+use Rattle.flat_code.specs.Shapes.{shape_of}
 
 -- ---- places by number
 
@@ -247,7 +248,7 @@ module _ (known : Known) (procs : List Signature) (globals places : List FlatPla
 
   -- the pieces of one value of a type
   abbrev pub is_constant_of : (ty : ℕ) → List Piece → Bool
-  is_constant_of ty pieces = are_one pieces 0 && has_shape (value_of pieces) (shape_of known.facts (type_at known.types ty))
+  is_constant_of ty pieces = are_one pieces 0 && has_pieces (shape_of known.facts (type_at known.types ty)) pieces
 
   -- a place and what it is filled with, or gets
   abbrev pub gets : (place ty : ℕ) → Option Ty → Bool
@@ -274,20 +275,16 @@ module _ (known : Known) (procs : List Signature) (globals places : List FlatPla
   fits (L.Construct to how ty fields from) =
       (building_fits known.facts (Some (type_at known.types ty)) fields (map taken from) && are_values from)
       && is_of (value to) (Some (type_at known.types ty))
-  fits (L.Constant to how ty pieces) =
-      is_constant_of ty pieces
-      && (is_of (value to) (Some (type_at known.types ty)) && (is_one_text pieces || not (is_hooked known.facts (type_at known.types ty))))
+  fits (L.Constant to how ty pieces) = is_constant_of ty pieces && is_of (value to) (Some (type_at known.types ty))
   fits (L.Call to how ty proc from) =
       call_fits (slice_get procs proc) (if_type known.types ty) from && same_value (value to) (if_type known.types ty)
   fits (L.Get to from how ty) = is_of (value to) (if_type known.types ty) && is_of (value to) (location from)
-  fits (L.Look to from) = is_of (value to) (location from)
+  fits (L.Look to from) = is_of (value to) (location from) && is_selected (kind_at (location from))
   fits (L.Root to place global) = is_of (location to) (any_place place global) && may_write to
   fits (L.Fresh to from waits) =
       is_of (location to) (value from) && (not (may_write to) && is_waiting waits (gives_hooked known.facts (value from)))
   fits (L.Standing to ty pieces) =
-      is_constant_of ty pieces
-      && (is_of (location to) (Some (type_at known.types ty))
-      && (not (may_write to) && (is_one_text pieces || not (is_hooked known.facts (type_at known.types ty)))))
+      is_constant_of ty pieces && (is_of (location to) (Some (type_at known.types ty)) && not (may_write to))
   fits (L.Part to from field) =
       is_of (location to) (field_at (kind_at (location from)) field) && (same_base to from && not (is_exception_type (location from)))
   fits (L.Item to from index) =
@@ -302,7 +299,8 @@ module _ (known : Known) (procs : List Signature) (globals places : List FlatPla
   fits (L.Zero to) = is_int (kind_at (value to))
   fits (L.Length to from) = is_int (kind_at (value to)) && has_length (kind_at (location from))
   fits (L.Still from len) = has_length (kind_at (location from)) && is_int (kind_at (value len))
-  fits (L.Element to from index) = is_of (value to) (element_of (kind_at (location from))) && is_int (kind_at (value index))
+  fits (L.Element to from index) =
+      is_of (value to) (element_of (kind_at (location from))) && (is_int (kind_at (value index)) && not (gives_hooked known.facts (value to)))
   fits (L.Beyond counter last inclusive to) = is_int (kind_at (value counter)) && is_int (kind_at (value last))
   fits (L.Next counter last) = is_int (kind_at (value counter)) && is_int (kind_at (value last))
   fits (L.Label name) = true

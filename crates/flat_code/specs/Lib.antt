@@ -4,6 +4,7 @@ pub mod Lines
 pub mod Running
 pub mod Whole
 pub mod Shapes
+pub mod PieceShapes
 pub mod Fits
 pub mod Sizes
 pub mod Alike

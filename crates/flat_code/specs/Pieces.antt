@@ -42,6 +42,16 @@ abbrev pub is_one_text : List Piece → Bool
 is_one_text (P.Text text ∷ []) = true
 is_one_text pieces = false
 
+-- whether texts or sequences stand in it, whose handles lead to what stands elsewhere in the data; and a constant that is more than one text and has some
+abbrev pub has_links : List Piece → Bool
+has_links [] = false
+has_links (P.Text text ∷ pieces) = true
+has_links (P.Elements n ∷ pieces) = true
+has_links (piece ∷ pieces) = has_links pieces
+
+abbrev pub is_linked : List Piece → Bool
+is_linked pieces = not (is_one_text pieces) && has_links pieces
+
 -- the bytes of a constant that is built; a number and a text that is read have none
 abbrev pub pieces_bytes : List Piece → ℕ
 pieces_bytes (P.Ordinal z ∷ []) = 0
@@ -50,12 +60,11 @@ pieces_bytes pieces = bytes (value_of pieces)
 
 -- ---- constants that stand in the data
 
--- The words of pieces: a value without parts has one that nobody looks at. What comes with the heap has none yet.
+-- The words of pieces without texts or sequences: a value without parts has one that nobody looks at.
 abbrev pub piece_words : List Piece → List ℕ
 piece_words [] = []
 piece_words (P.Ordinal z ∷ pieces) = cast_unsigned w32 z ∷ piece_words pieces
 piece_words (P.Parts zero ∷ pieces) = 0 ∷ piece_words pieces
-piece_words (P.Elements zero ∷ pieces) = 0 ∷ piece_words pieces
 piece_words (piece ∷ pieces) = piece_words pieces
 
 -- their bytes, the lowest one of a word first

@@ -1,9 +1,9 @@
 -- How much code there is, how many bytes the variables of a procedure take, and how many data: what passes bound.
-use Rattle.std.specs.Prelude.{ℕ, suc, Bool, true, ◌+◌, ◌*◌, pos, if◌then◌else◌, List, [], ◌∷◌, ◌++◌, length, map}
+use Rattle.std.specs.Prelude.{ℕ, zero, suc, Bool, true, ◌+◌, ◌*◌, pos, if◌then◌else◌, List, [], ◌∷◌, ◌++◌, length, map}
 use Rattle.std.specs.Ordering.{int_eq}
 use Rattle.std.specs.Set.{unique_keys}
 use Rattle.nim_types.specs.Types.{same_text}
-use Rattle.nim_types.specs.declared.types.TheConstants.{WORD_BYTES}
+use Rattle.nim_types.specs.declared.types.TheConstants.{WORD_BYTES, LIST_BYTES}
 use Rattle.nim_types.specs.declared.types.TypeDef.{TypeDef}
 use Rattle.nim_types.specs.declared.types.TypeDef.TheVariants as D
 use Rattle.nim_types.specs.Table.{type_at}
@@ -25,7 +25,7 @@ use Rattle.flat_code.specs.declared.place.PlaceKind.{PlaceKind}
 use Rattle.flat_code.specs.declared.place.PlaceKind.TheVariants.{Local, Cursor, Result, Param, ForVar, Caught, Global, Temp, Location, Within, Counter}
 use Rattle.flat_code.specs.declared.place.FlatPlace.{FlatPlace}
 use Rattle.flat_code.specs.Fits.{start_places}
-use Rattle.flat_code.specs.Pieces.{standing_bytes}
+use Rattle.flat_code.specs.Pieces.{has_links, is_linked, standing_bytes}
 use Rattle.flat_code.specs.Scene.{Known, known_in}
 
 -- ---- variables
@@ -99,7 +99,7 @@ weight_of O.ReadLineInto n = 3
 weight_of O.Assign n = move_weight
 weight_of (O.Update operator) n = 13
 weight_of O.Add n = 12
-weight_of O.Append n = 12
+weight_of O.Append n = 8 + 12 * n
 weight_of O.SetLength n = 2 + 8 * n
 weight_of O.Pop n = 4 + 12 * n
 weight_of O.Move n = move_weight + clear_weight
@@ -136,7 +136,8 @@ owning_weight (W.ResultGets place ty) = 7
 abbrev pub weight : Line → ℕ
 weight (L.Apply to operation how ty of from) = keep_weight + weight_of operation (length from)
 weight (L.Construct to how ty fields from) = keep_weight + clear_weight + move_weight * length from
-weight (L.Constant to how ty pieces) = keep_weight + clear_weight + pieces_weight pieces
+-- one with texts or sequences inside is copied from where it stands
+weight (L.Constant to how ty pieces) = keep_weight + suc move_weight + pieces_weight pieces
 -- the unit, the test of how many calls are active, and the result
 weight (L.Call to how ty proc from) = 6 + move_weight + argument_weight * length from
 weight (L.Get to from how ty) = keep_weight + move_weight
@@ -179,10 +180,9 @@ abbrev pub pieces_texts : List Piece → List (List ℕ)
 pieces_texts [] = []
 pieces_texts (piece ∷ pieces) = piece_texts piece ++ pieces_texts pieces
 
--- a constant that stands in the data: one text, or its bytes and its texts
+-- a constant that stands in the data: its texts, or the bytes of one without texts or sequences
 abbrev pub standing_texts : List Piece → List (List ℕ)
-standing_texts (P.Text text ∷ []) = text ∷ []
-standing_texts pieces = standing_bytes pieces ∷ pieces_texts pieces
+standing_texts pieces = if has_links pieces then pieces_texts pieces else standing_bytes pieces ∷ []
 
 -- the texts of constants, each as often as it stands there
 abbrev pub texts_in : Line → List (List ℕ)
@@ -194,6 +194,29 @@ texts_in line = []
 abbrev pub lines_texts : List Line → List (List ℕ)
 lines_texts [] = []
 lines_texts (line ∷ lines) = texts_in line ++ lines_texts lines
+
+-- The bytes that are laid out for a constant that leads to its texts and sequences: a number is a word, a text or a sequence has a length and an address;
+-- and its words, and those of each sequence, stand behind a handle. Its texts don't count here.
+abbrev pub linked_piece_bytes : Piece → ℕ
+linked_piece_bytes (P.Ordinal z) = WORD_BYTES
+linked_piece_bytes (P.Text text) = LIST_BYTES
+linked_piece_bytes P.Nil = WORD_BYTES
+linked_piece_bytes (P.Parts zero) = WORD_BYTES
+linked_piece_bytes (P.Parts (suc n)) = 0
+linked_piece_bytes (P.Elements n) = LIST_BYTES + LIST_BYTES
+
+abbrev pub linked_pieces_bytes : List Piece → ℕ
+linked_pieces_bytes [] = 0
+linked_pieces_bytes (piece ∷ pieces) = linked_piece_bytes piece + linked_pieces_bytes pieces
+
+abbrev pub linked_bytes : List Piece → ℕ
+linked_bytes pieces = if is_linked pieces then LIST_BYTES + linked_pieces_bytes pieces else 0
+
+-- at each place where one stands
+abbrev pub linked_in : Line → ℕ
+linked_in (L.Constant to how ty pieces) = linked_bytes pieces
+linked_in (L.Standing to ty pieces) = linked_bytes pieces
+linked_in line = 0
 
 abbrev pub global_bytes : PlaceKind → (value : ℕ) → ℕ
 global_bytes Global value = value
@@ -245,6 +268,12 @@ module _ {L : Type 0} (plain : L → Line) where
   abbrev pub distinct_texts : List (CodeProc L) → List (List ℕ)
   distinct_texts procs = unique_keys same_text (code_texts procs)
 
+  -- constants with texts or sequences inside, each as often as it stands there
+  abbrev pub constants_bytes : List (CodeProc L) → ℕ
+  constants_bytes [] = 0
+  constants_bytes (p ∷ procs) = summed linked_in (map plain p.lines) + constants_bytes procs
+
   -- globals are places of the start code
   abbrev pub data_bytes : List TypeDef → List (CodeProc L) → ℕ
-  data_bytes table procs = globals_bytes (known_in table) (start_places procs) + (names_bytes table + handled_bytes (distinct_texts procs))
+  data_bytes table procs = globals_bytes (known_in table) (start_places procs)
+      + (names_bytes table + (handled_bytes (distinct_texts procs) + constants_bytes procs))

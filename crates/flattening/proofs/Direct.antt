@@ -13,7 +13,7 @@ use Rattle.nim_program.specs.Program.{Stmt, Do, Idle, Give, Leave, Select, Loop,
 use Rattle.nim_program.specs.Folds.{loop_places}
 use Rattle.nim_meaning.specs.Here.{form_for}
 use Rattle.nim_meaning.specs.LeftOut.{◌or_then◌, earlier, any_place_unbuilt, left_out_in_stmt, left_out_in_block, left_out_in_blocks}
-use Rattle.nim_meaning.specs.LeftOut.{is_act_built, is_literal_built, is_exception_type, out_if, first_unbuilt, left_out_in}
+use Rattle.nim_meaning.specs.LeftOut.{is_act_built, is_exception_type, out_if, first_unbuilt, left_out_in}
 use Rattle.nim_meaning.specs.LeftOut.{left_out_in_path, left_out_in_args}
 use Rattle.nim_meaning.specs.Unbuilt.{has_unbuilt, has_unbuilt_any, is_unbuilt, gives_unbuilt}
 use Rattle.flattening.proofs.Plain.{kept, neither, found, none_earlier}
@@ -48,7 +48,7 @@ module _ (facts : Facts) where
 
   -- of an operation whose operands are such; a constant has none
   abbrev pub of_act : (ty : Option Ty) → Act → Args → Bool → Bool
-  of_act ty (Giving literal) operands all = (is_characters literal || not (has_own_hooks ty)) && is_literal_built facts ty literal
+  of_act ty (Giving literal) operands all = is_characters literal || not (has_own_hooks ty)
   of_act ty (Calling proc (first ∷ types)) operands all = false
   of_act ty act operands all = all
 
@@ -110,9 +110,7 @@ module _ (facts : Facts) where
       all ≡ true → of_act ty act operands all ≡ true
   acted ty (Doing operation) operands all u b h = h
   acted ty (Building fields) operands all u b h = h
-  acted ty (Giving literal) operands all u b h =
-      and_from (is_characters literal || not (has_own_hooks ty)) (is_literal_built facts ty literal)
-      (built_right literal (has_own_hooks ty) (own_hooks ty u)) b
+  acted ty (Giving literal) operands all u b h = built_right literal (has_own_hooks ty) (own_hooks ty u)
   acted ty (Calling proc []) operands all u b h = h
   acted ty (Calling proc (first ∷ types)) operands all u b h = absurd (both_ways false refl b)
 

@@ -2,7 +2,6 @@
 use Rattle.std.proofs.Common.{◌≡◌, ℕ, suc, ◌+◌, Bool, true, false, List, [], ◌∷◌, Option, Some, None, refl, sym, ap, ap₂, ◌∙◌}
 use Rattle.std.specs.Prelude.{◌&&◌, ◌||◌, not, if◌then◌else◌, nat_eq, map, slice_get}
 use Rattle.std.proofs.lemmas.Bool.{and_parts, and_from}
-use Rattle.flat_code.specs.Pieces.{is_one_text, pieces_of}
 use Rattle.nim_types.specs.Types.{Ty, Tys, no_types, types as more_types, Facts}
 use Rattle.nim_types.specs.Types as type
 use Rattle.nim_program.specs.declared.operation.Operation.{Operation}
@@ -38,8 +37,6 @@ use Rattle.flattening.specs.Formed.{IfListed, AreListed}
 use Rattle.flattening.specs.Numbering.{if_number, width, width_at}
 use Rattle.flattening.specs.ExprLines.{has_hooks, is_copied, is_lent_at, froms, act_line, back_line}
 use Rattle.flattening.proofs.Acting.{type_is, types_are}
-use Rattle.nim_meaning.specs.LeftOut.{is_literal_built}
-use Rattle.flattening.proofs.BuiltPieces.{pieces_built}
 use Rattle.flattening.proofs.Direct.{is_characters, has_own_hooks, of_act}
 use Rattle.flattening.proofs.Fit.{Among, Fit, fitting, fit_none, fit_line, fit_by}
 use Rattle.flattening.proofs.FitParts.{never, of_same, both_are, both_some}
@@ -162,7 +159,7 @@ module _ (types : List Ty) (facts : Facts) (modes : (proc position : ℕ) → Mo
       (both_some _ _ (Some ty) refl is (ap Some listed))
 
   giving_right : (t : ℕ) (literal : Literal) (how : UseAt) (ty : Option Ty) (operands : Args) →
-      (is_characters literal || not (has_own_hooks facts ty)) && is_literal_built facts ty literal ≡ true →
+      is_characters literal || not (has_own_hooks facts ty) ≡ true →
       act_fits here ty (Giving literal) operands ≡ true → IfListed types ty → value t ≡ ty →
       fitting around (act_line types facts modes t (Giving literal) how ty (types_in operands) (from_all (Giving literal) operands (suc t))) ≡ true
   giving_right t literal how ty (ByValue e rest) d h listed is = never h
@@ -170,12 +167,8 @@ module _ (types : List Ty) (facts : Facts) (modes : (proc position : ℕ) → Mo
   giving_right t literal how None NoArg d h listed is = never h
   giving_right t literal how (Some ty) NoArg d h listed is =
       and_from _ _
-      (paths.constant_right types facts modes procs globals sigs start whole stands_for grounds filled places dest sees ty literal listed
-      (and_parts (is_characters literal || not (has_own_hooks facts (Some ty))) (is_literal_built facts (Some ty) literal) d).0 h)
-      (and_from _ _ (both_some _ _ (Some ty) refl is (ap Some listed))
-      (ap (λ u. is_one_text (pieces_of literal) || not (is_hooked facts u)) listed
-      ∙ pieces_built facts ty literal
-      (and_parts (is_characters literal || not (has_own_hooks facts (Some ty))) (is_literal_built facts (Some ty) literal) d).1))
+      (paths.constant_right types facts modes procs globals sigs start whole stands_for grounds filled places dest sees ty literal listed d h)
+      (both_some _ _ (Some ty) refl is (ap Some listed))
 
   -- ---- calls
 

@@ -369,7 +369,8 @@ module _ (types : List Ty) (facts : Facts) (modes : (proc position : ℕ) → Mo
         let some = parts.path_typed types facts modes procs globals sigs start whole stands_for filled places dest false path from p in
         aim_fits false path from p
         >> (find_fits false path from p
-        >> (fit_line (L.Look u from) refl (parts.both_some _ _ (type_at path) some is l.type)
+        >> (fit_line (L.Look u from) refl (and_from _ _ (parts.both_some _ _ (type_at path) some is l.type)
+        (ap (λ o. is_selected (kind_if facts o)) l.type ∙ (and_parts (is_selected k) (are_labels k labels) h.0).0))
         >> (all_tests_fit k labels rest u (from + width_at path) (ap (kind_if facts) is) (and_parts (is_selected k) (are_labels k labels) h.0).1
         >> (fit_line (L.Jump (label Next t)) refl refl
         >> (arms_fit (are_enough k ty labels) (is_covered (type_at path)) 1 labels rest ty (use_at how node.number) t (from + width_at path)

@@ -15,7 +15,7 @@ use Rattle.nim_program.specs.Kinds.{kind_of, kind_if, is_int, has_length, elemen
 use Rattle.nim_program.specs.Scopes.{Placed, placed, Here}
 use Rattle.nim_program.specs.Typed.{own_types, are_typed, Around, looping}
 use Rattle.nim_program.specs.Typed.{head_fits, starts, is_empty, is_typed_block, are_typed_blocks}
-use Rattle.nim_meaning.specs.Here.{is_hooked}
+use Rattle.nim_meaning.specs.Here.{is_hooked, gives_hooked}
 use Rattle.nim_meaning.specs.Meaning.{is_fresh}
 use Rattle.flat_code.specs.declared.line.Line.TheVariants as L
 use Rattle.flat_code.specs.declared.place.FlatPlace.{FlatPlace}
@@ -358,7 +358,8 @@ module _ (types : List Ty) (facts : Facts) (modes : (proc position : ℕ) → Mo
         >> fit_line (hooked_element types facts modes result (is_fresh head) variable t) (hooked_waits (is_fresh head) t s.marks.0 s.listed.0 hooked)
         (hooked_right (is_fresh head) t s.listed.0 s.held.0 e.0))
         (λ unhooked. let e = owned.element_value known modes whole node variable path NoArg t _ _ (omega arith) s.listed.0 s.owns unhooked in
-        fit_line (L.Element t u (suc t)) refl (and_from _ _ (ap₂ (λ v o. is_of v (element_of (kind_if facts o))) e led.type ∙ of) number)
+        fit_line (L.Element t u (suc t)) refl (and_from _ _ (ap₂ (λ v o. is_of v (element_of (kind_if facts o))) e led.type ∙ of)
+        (and_from _ _ number (ap (λ v. not (gives_hooked facts v)) e ∙ ap not unhooked)))
         >> fit_line (L.Fill variable.number t) (and_from _ _ (s.marks.0.fills (none_stands (is_fresh head) unhooked)) refl)
         (both_some _ _ (Some variable.of) refl s.held.0.own e))
         >> (fit_line (L.Turn (label Turn t)) refl refl

@@ -21,12 +21,12 @@ use Rattle.nim_program.specs.Typed.{own_types, type_if, act_types, is_typed, is_
 use Rattle.nim_program.specs.Uses.{use_for, use_of}
 use Rattle.nim_meaning.specs.Here.{is_hooked, gives_hooked}
 use Rattle.nim_meaning.specs.Shapes.{has_node, is_lent, is_given}
-use Rattle.nim_meaning.specs.Values.{literal_value}
 use Rattle.flat_code.specs.declared.place.FlatPlace.{FlatPlace}
 use Rattle.flat_code.specs.Fits.{Taken, Signature, is_var, is_value, any_place, place_named}
 use Rattle.flat_code.specs.Leads.{place_hooked}
 use Rattle.flat_code.specs.Scene.{Known}
-use Rattle.flat_code.specs.Shapes.{shape_of, has_shape}
+use Rattle.flat_code.specs.Shapes.{shape_of}
+use Rattle.flat_code.proofs.ForCallers.{IsOf}
 use Rattle.flattening.specs.ExprLines.{has_hooks, is_copied, is_lent_at}
 use Rattle.flattening.specs.Formed.{IsListed, IfListed, AreListed}
 use Rattle.flattening.specs.Numbering.{width, width_at, widths, arm_count, looked_from, selector_from}
@@ -137,7 +137,7 @@ module _ (types : List Ty) (facts : Facts) (modes : (proc position : ℕ) → Mo
   pub record Grounds : Type 0 where
     pub calls : (n : ℕ) (p : Proc) (body : Body) → slice_get procs n ≡ Some p → p.body ≡ Some body → Signed n p
     pub constants : (ty : Ty) (literal : Literal) → IsListed types ty → is_characters literal || not (has_own_hooks facts (Some ty)) ≡ true →
-        is_constant facts ty literal ≡ true → has_shape (literal_value literal) (shape_of facts ty) ≡ true
+        is_constant facts ty literal ≡ true → IsOf literal (shape_of facts ty)
 
   -- places in scope are places of the code
   pub record Sees (filled : ℕ) (places : List Placed) : Type 0 where

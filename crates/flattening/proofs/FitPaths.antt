@@ -2,7 +2,7 @@
 use Rattle.std.proofs.Common.{◌≡◌, ℕ, zero, suc, ◌+◌, Bool, true, false, List, [], ◌∷◌, Option, Some, None, refl, sym, ap, ap₂, ◌∙◌, subst}
 use Rattle.std.specs.Prelude.{◌&&◌, ◌||◌, not, if◌then◌else◌, map}
 use Rattle.std.proofs.lemmas.Bool.{and_parts, and_from}
-use Rattle.nim_meaning.specs.Here.{gives_hooked, is_hooked}
+use Rattle.nim_meaning.specs.Here.{gives_hooked}
 use Rattle.nim_types.specs.Types.{Ty, Facts}
 use Rattle.nim_program.specs.declared.operation.Operation.{Operation}
 use Rattle.nim_program.specs.declared.operation.Operation.TheVariants as O
@@ -22,9 +22,11 @@ use Rattle.flat_code.specs.declared.line.Line.TheVariants as L
 use Rattle.flat_code.specs.declared.place.FlatPlace.{FlatPlace}
 use Rattle.flat_code.specs.Fits as fit
 use Rattle.flat_code.specs.Fits.{Signature, same_bool, writes, taken, are_of, are_values, may_write_first, is_waiting}
-use Rattle.nim_meaning.specs.LeftOut.{is_literal_built, is_exception_type}
-use Rattle.flat_code.specs.Pieces.{is_one_text, pieces_of}
-use Rattle.flat_code.specs.Shapes.{has_shape, shape_of}
+use Rattle.nim_meaning.specs.LeftOut.{is_exception_type}
+use Rattle.flat_code.specs.Pieces.{pieces_of}
+use Rattle.flat_code.specs.PieceShapes.{has_pieces}
+use Rattle.flat_code.specs.Shapes.{shape_of}
+use Rattle.flat_code.proofs.ForCallers.{pieces_fit}
 use Rattle.flattening.specs.Formed.{IsListed, IfListed}
 use Rattle.flattening.specs.Numbering.{type_number, width, width_at}
 use Rattle.flattening.specs.ExprLines.{begin_line, from_of, froms, has_hooks, is_copied, is_call, is_lent_at, find_lines, settle_lines}
@@ -35,7 +37,6 @@ use Rattle.flattening.proofs.FitParts as parts
 use Rattle.flattening.proofs.FitWaits as waits
 use Rattle.flattening.proofs.Literals.{pieces_value}
 use Rattle.flattening.proofs.OnePiece.{is_one}
-use Rattle.flattening.proofs.BuiltPieces.{pieces_built}
 
 same_itself : (b : Bool) → same_bool b b ≡ true
 same_itself true = refl
@@ -93,7 +94,8 @@ module _ (types : List Ty) (facts : Facts) (modes : (proc position : ℕ) → Mo
       (pieces_of literal) ≡ true
   constant_right ty literal listed direct is =
       and_from _ _ (is_one literal)
-      (ap₂ (λ v u. has_shape v (shape_of facts u)) (pieces_value literal) listed ∙ grounds.constants ty literal listed direct is)
+      (ap (λ u. has_pieces (shape_of facts u) (pieces_of literal)) listed
+      ∙ pieces_fit literal (shape_of facts ty) (pieces_value literal) (grounds.constants ty literal listed direct is))
 
   pub standing_right : (value : Expr) (literal : Literal) (t : ℕ) → constant_in value ≡ Some literal → is_typed here value ≡ true →
       is_direct facts value ≡ true → IfListed types (type_of value) → led t ≡ type_of value → may_write t ≡ false →
@@ -101,14 +103,11 @@ module _ (types : List Ty) (facts : Facts) (modes : (proc position : ℕ) → Mo
   standing_right (Apply node None (Giving l) NoArg) literal t e typed direct listed is writes = never (and_parts false true typed).0
   standing_right (Apply node (Some ty) (Giving l) NoArg) literal t e typed direct listed is writes =
       let same : l ≡ literal = cc in
-      let d = and_parts (is_characters l || not (has_own_hooks facts (Some ty))) (is_literal_built facts (Some ty) l) direct in
       and_from _ _
       (subst (λ x. fit.is_constant_of (parts.known types facts modes procs globals sigs start whole stands_for) sigs start whole (type_number types ty)
       (pieces_of x) ≡ true)
-      same (constant_right ty l listed d.0 (and_parts (is_constant facts ty l) true typed).0))
-      (and_from _ _ (both_some _ _ (Some ty) refl is (ap Some listed))
-      (and_from _ _ (ap not writes)
-      (ap₂ (λ x u. is_one_text (pieces_of x) || not (is_hooked facts u)) (sym same) listed ∙ pieces_built facts ty l d.1)))
+      same (constant_right ty l listed direct (and_parts (is_constant facts ty l) true typed).0))
+      (and_from _ _ (both_some _ _ (Some ty) refl is (ap Some listed)) (ap not writes))
   standing_right (Apply node ty (Giving l) (ByValue value rest)) literal t e typed direct listed is writes = absurd cc
   standing_right (Apply node ty (Giving l) (ByPath path rest)) literal t e typed direct listed is writes = absurd cc
   standing_right (Apply node ty (Doing operation) operands) literal t e typed direct listed is writes = absurd cc

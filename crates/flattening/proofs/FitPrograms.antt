@@ -26,7 +26,6 @@ use Rattle.nim_program.specs.Typed.{starts, is_next}
 use Rattle.nim_meaning.specs.LeftOut.{left_out_in_block, left_out_in_head, left_out_in_body, left_out_in_proc, left_out_in_procs}
 use Rattle.nim_meaning.specs.LeftOut.{first_of, IsBuilt}
 use Rattle.nim_meaning.specs.Shapes.{mode_in, modes_in}
-use Rattle.nim_meaning.specs.Values.{literal_value}
 use Rattle.flat_code.specs.declared.code.CodeProc.{CodeProc}
 use Rattle.flat_code.specs.declared.line.Line.{Line}
 use Rattle.flat_code.specs.declared.line.Line.TheVariants as L
@@ -39,8 +38,8 @@ use Rattle.flat_code.specs.Running.{before_last}
 use Rattle.flat_code.specs.Scene.{Known}
 use Rattle.flat_code.specs.Waits.{all_wait_right, AllWaitRight}
 use Rattle.flat_code.specs.Leads.{may_fill, LeadsRight, AllLeadRight}
-use Rattle.flat_code.specs.Shapes.{shape_of, has_shape}
-use Rattle.flat_code.proofs.ForCallers.{AreSorted, simple_of, constant_shape, text_shape}
+use Rattle.flat_code.specs.Shapes.{shape_of}
+use Rattle.flat_code.proofs.ForCallers.{AreSorted, IsOf, simple_of, constant_shape, text_shape}
 use Rattle.flattening.specs.Flattened.{known_of, modes_of}
 use Rattle.flattening.specs.Formed.{IsListed}
 use Rattle.flattening.specs.Given.{flat_body, flat_proc, flat_procs}
@@ -447,14 +446,14 @@ module _ (program : Program) (plan : Plan) where
       by (inr e) = (form.plain, subst (λ (t : Ty). HasForm facts t form.plain) (sym e) of_int)
 
   simple_constant : IsTyped program → AreSorted facts → (ty : Ty) (literal : Literal) → IsListed types ty → has_own_hooks facts (Some ty) ≡ false →
-      is_constant facts ty literal ≡ true → has_shape (literal_value literal) (shape_of facts ty) ≡ true
+      is_constant facts ty literal ≡ true → IsOf literal (shape_of facts ty)
   simple_constant typed sorted ty literal e unowned h =
       let f = listed_form typed ty e in
       constant_shape facts sorted f.1 (simple_of facts sorted f.1 (sym (ap has_resource (the_form f.1)) ∙ unowned)) literal h
 
   constants : IsTyped program → AreSorted facts → (ty : Ty) (literal : Literal) → IsListed types ty →
       is_characters literal || not (has_own_hooks facts (Some ty)) ≡ true →
-      is_constant facts ty literal ≡ true → has_shape (literal_value literal) (shape_of facts ty) ≡ true
+      is_constant facts ty literal ≡ true → IsOf literal (shape_of facts ty)
   constants typed sorted ty (Characters bytes) e d h = text_shape facts sorted (listed_form typed ty e).1 bytes h
   constants typed sorted ty (Number z) e d h = simple_constant typed sorted ty (Number z) e (not-true (has_own_hooks facts (Some ty)) d) h
   constants typed sorted ty NoObject e d h = simple_constant typed sorted ty NoObject e (not-true (has_own_hooks facts (Some ty)) d) h

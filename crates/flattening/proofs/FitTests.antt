@@ -12,7 +12,7 @@ use Rattle.nim_program.specs.Program.{Building, Label, Expr, Args, NoArg, ByValu
 use Rattle.nim_program.specs.Program.{Stmt}
 use Rattle.nim_program.specs.Program.{Stmts, Blocks, Otherwise, Block}
 use Rattle.nim_program.specs.Folds.{lists, total, totals, total_in, total_of, own_places}
-use Rattle.nim_program.specs.Kinds.{TypeKind, kind_if, is_bool, is_of}
+use Rattle.nim_program.specs.Kinds.{TypeKind, kind_if, is_bool, is_of, is_selected}
 use Rattle.nim_program.specs.Fitting.{are_labels, has_label, labels_fit, are_enough}
 use Rattle.nim_program.specs.Scopes.{Placed, Here}
 use Rattle.nim_program.specs.Typed.{own_types, is_typed, are_typed, Around, are_blocks, has_else, labels_select, selector_kind}
@@ -260,13 +260,14 @@ module _ (types : List Ty) (facts : Facts) (modes : (proc position : ℕ) → Mo
         from all in
         let l = parts.leads types facts modes procs globals sigs start whole stands_for filled places dest false path from p in
         let is = parts.selector_is types facts modes procs globals sigs start whole stands_for filled places dest path NoArg u owns all in
+        let k = kind_if facts (type_at path) in
+        let selected = (and_parts (is_selected k) (are_labels k labels) (and_parts _ (are_blocks labels bs) (and_parts _ _ h).0).0).0 in
         record {
           fit = exprs.aim_fits types facts modes procs globals sigs start whole stands_for grounds filled places dest sees false path from p
               >> (paths.find_fits types facts modes procs globals sigs start whole stands_for grounds filled places dest sees false path from p
               >> fit_line (L.Look u from) refl
-              (both_some _ _ (type_at path) (parts.path_typed types facts modes procs globals sigs start whole stands_for filled places dest false path
-              from p) is
-              l.type));
+              (and_from _ _ (both_some _ _ (type_at path) (parts.path_typed types facts modes procs globals sigs start whole stands_for filled places dest
+              false path from p) is l.type) (ap (λ o. is_selected (kind_if facts o)) l.type ∙ selected)));
           kind = ap (kind_if facts) is;
         }
     selects labels (ByPath path (ByValue e rest)) bs u h typed direct listed owns = no_kind labels bs h

@@ -62,7 +62,6 @@ mod Owned
 mod Fit
 mod Direct
 mod FitParts
-mod BuiltPieces
 mod FitPaths
 mod OnePiece
 mod FitActs
@@ -82,7 +81,9 @@ mod NoHooks
 mod Amounts
 mod Measures
 mod Weights
+mod Measured
 mod Texts
+mod Constants
 mod GlobalSizes
 mod DataSizes
 mod LastOnes

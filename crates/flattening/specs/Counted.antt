@@ -1,5 +1,6 @@
 -- The parts of a program that bound how much code it has: nodes, fresh values and dereferences in paths, the branches of a `case` and their labels,
--- bodies, and what isn't zero in constants that are built; and what ends at its exits. And how often a text stands in its constants and labels.
+-- bodies, and what isn't zero in constants that are built; and what ends at its exits. How often a text stands in its constants and labels, and how many
+-- bytes constants with texts or sequences inside have.
 use Rattle.std.specs.Prelude.{ℕ, suc, ◌+◌, pos, if◌then◌else◌, false, List, [], ◌∷◌, ◌++◌, length, Option, Some, None}
 use Rattle.std.specs.Ordering.{int_eq}
 use Rattle.nim_types.specs.Types.{Facts, same_text}
@@ -17,7 +18,7 @@ use Rattle.nim_meaning.specs.Waiting.{Wait, waiting_all, waiting_first}
 use Rattle.flat_code.specs.declared.place.FlatPlace.{FlatPlace}
 use Rattle.flat_code.specs.Codes.{waiting_in}
 use Rattle.flat_code.specs.Pieces.{pieces_of}
-use Rattle.flat_code.specs.Sizes.{pieces_texts, standing_texts}
+use Rattle.flat_code.specs.Sizes.{pieces_texts, standing_texts, linked_bytes}
 
 -- what isn't zero in a constant
 abbrev mutual
@@ -197,3 +198,18 @@ body_times text body = total_of numbers (own_times text) body.stmts
 
 abbrev pub program_times : (text : List ℕ) → Program → ℕ
 program_times text = in_bodies numbers (body_times text)
+
+-- a constant with texts or sequences inside, wherever it is built, and twice where it is read where it stands
+abbrev pub part_constants : Part → ℕ
+part_constants (Acting (Giving literal)) = linked_bytes (pieces_of literal)
+part_constants (Leading read written (Standing literal)) = linked_bytes (pieces_of literal) + linked_bytes (pieces_of literal)
+part_constants part = 0
+
+abbrev pub own_constants : Seen → ℕ
+own_constants seen = part_constants seen.part
+
+abbrev pub body_constants : Body → ℕ
+body_constants body = total_of numbers own_constants body.stmts
+
+abbrev pub program_constants : Program → ℕ
+program_constants = in_bodies numbers body_constants

@@ -17,6 +17,7 @@ ghost use Rattle.flat_code.specs.Codes.{flat_plain, places_of, procs_of, hooks_o
 ghost use Rattle.flat_code.specs.Fits.{code_fits, start_places};
 ghost use Rattle.flat_code.specs.Scene.{Known, known_in};
 ghost use Rattle.flat_code.specs.Sizes.{code_weight, globals_bytes, code_texts};
+ghost use Rattle.flat_code.specs.Sizes.{constants_bytes};
 ghost use Rattle.flat_code.specs.Leads.{AllLeadRight};
 ghost use Rattle.flat_code.specs.Waits.{AllWaitOnce, AllWaitRight};
 ghost use Rattle.flat_code.specs.Whole.{label_in, are_whole};
@@ -24,7 +25,7 @@ ghost use Rattle.flattening.specs.declared.laws.TheConstants.{FLAT_PACE, NODE_WE
 ghost use Rattle.flattening.specs.declared.laws.TheConstants.{PAIR_WEIGHT};
 ghost use Rattle.flat_code.specs.Alike.{AllAlike};
 ghost use Rattle.flattening.specs.Counted.{program_parts, program_pairs, times};
-ghost use Rattle.flattening.specs.Counted.{places_waiting, program_times};
+ghost use Rattle.flattening.specs.Counted.{places_waiting, program_times, program_constants};
 ghost use Rattle.flattening.specs.Examples.{counting};
 ghost use Rattle.flattening.specs.Flattened.{known_of, code_of, modes_of};
 ghost use Rattle.flattening.specs.Flattened.{flat_meaning, flat_by_units, IsExact};
@@ -82,8 +83,9 @@ pub fn fits()
 {}
 
 /// Flat code weighs no more than the counted parts and pairs of its program allow, its globals take
-/// no more bytes than the program's, and each text stands in it twice as often as in the program at most: a
-/// `for` over a constant that is read where it stands looks it up at two places.
+/// no more bytes than the program's, each text stands in it twice as often as in the program at most: a
+/// `for` over a constant that is read where it stands looks it up at two places; and constants with texts or
+/// sequences inside have no more bytes than are counted of the program.
 pub fn sizes()
     ensures weight { (program : Program) (plan : Plan) →
         code_weight flat_plain (flat_procs program plan) ≤ NODE_WEIGHT * program_parts program
@@ -96,6 +98,8 @@ pub fn sizes()
         ≤ globals_size program.facts program.globals }
     ensures texts { (program : Program) (plan : Plan) (text : List ℕ) →
         times text (code_texts flat_plain (flat_procs program plan)) ≤ 2 * program_times text program }
+    ensures constants { (program : Program) (plan : Plan) →
+        constants_bytes flat_plain (flat_procs program plan) ≤ program_constants program }
 {}
 
 /// What word code rests on beside that flat code fits: lines of flat code that give one label or one

@@ -2,7 +2,7 @@
 use Rattle.std.proofs.Common.{◌≡◌, ◌≢◌, ℕ, suc, ◌+◌, ◌-◌, ◌*◌, ◌%◌, ◌<◌, ◌≤◌, ◌⊎◌, inl, inr, List, [], ◌∷◌, ◌++◌, length, take, drop, replicate, Some, Ok, Err}
 use Rattle.std.proofs.Common.{refl, sym, ap, ap₂, subst, ◌∙◌, ⊎_elim, arith, append_assoc, length-append}
 use Rattle.std.specs.Prelude.{◌==◌, if◌then◌else◌}
-use Rattle.std.proofs.lemmas.Bool.{cases_eq, cases_order}
+use Rattle.std.proofs.lemmas.Bool.{cases_eq, cases_order, cond-true, eq-eqb}
 use Rattle.std.proofs.lemmas.List.{length-take, length-drop, take-append-drop, drop-drop, length-replicate}
 use Rattle.std.proofs.lemmas.Option.{none-some, same_Some}
 use Rattle.std.proofs.Math.Seq.{take-append_seam, drop-append_seam, drop-append-add}
@@ -13,7 +13,7 @@ use Rattle.rv32_isa.specs.declared.machine.FaultKind.TheVariants.{Misaligned}
 use Rattle.rv32_isa.specs.Image.{statics_at, heap_at}
 use Rattle.rv32_isa.specs.Words.{word_bytes}
 use Rattle.rv32_isa.specs.Steps.{number_of}
-use Rattle.rv32_isa.proofs.ForCallers.{length-word_bytes}
+use Rattle.rv32_isa.proofs.ForCallers.{length-word_bytes, little-word_bytes}
 use Rattle.word_code.specs.Memory.{Memory, number_at, bytes_at}
 use Rattle.word_code.specs.RoutineTable.{Beside, IsRewritten, trap_line}
 use Rattle.word_code.proofs.ForCallers.{Sized}
@@ -114,6 +114,24 @@ module _ (at : ℕ) (classes : List Class) (stands : Stands) (m : Memory) (h : I
         let n : length m.heap ≡ length front + (length s.payload + length parts.after)
         = ap length heap_is ∙ length-append front (s.payload ++ parts.after) ∙ ap (λ i. length front + i) (length-append s.payload parts.after) in
         omega (arith, f, n)
+
+    -- the first word of its header
+    pub header_read : Sized m → (a : ℕ) → a + 8 ≡ s.place → number_at m a Word ≡ Ok (first_word s.kind s.class)
+    header_read sized a is =
+        let f = parts.far in
+        let w = parts.whole in
+        let high = high_is in
+        let first : List ℕ = word_bytes (first_word s.kind s.class) in
+        let long : length first ≡ 4 = length-word_bytes (first_word s.kind s.class) in
+        let rest : List ℕ = word_bytes s.word ++ (s.payload ++ parts.after) in
+        let read : bytes_at m a 4 ≡ Some first
+        = heap_part m sized a 4 (omega (arith, is, f)) (omega (arith, is, high))
+        ∙ ap (λ i. Some (take 4 (drop i m.heap))) (omega (arith, is, f))
+        ∙ ap (λ z. Some (take 4 (drop (length parts.before) z))) (h.bytes ∙ parts.bytes)
+        ∙ ap (λ z. Some (take 4 z)) (drop-append_seam parts.before (first ++ rest))
+        ∙ ap (λ i. Some (take i (first ++ rest))) (sym long) ∙ ap Some (take-append_seam first rest) in
+        cond-true (a % 4 == 0) (number_of (bytes_at m a 4)) (Err Misaligned) (eq-eqb (a % 4) 0 (omega (arith, is, w)))
+        ∙ ap number_of read ∙ ap Ok (little-word_bytes (first_word s.kind s.class) (whole_of k s there).words.1)
 
     pub is_there : Sized m → IsThere m s
     is_there sized =

@@ -7,4 +7,7 @@ mod HeapUses
 mod Walks
 mod Sizes
 mod ClassLaws
+mod Fills
+mod HandleWords
+mod CharacterPut
 pub mod ForCallers

@@ -6,10 +6,11 @@ use Rattle.std.proofs.lemmas.Bool.{and_parts, and_from, leb-true, le-leb, ne_eqb
 use Rattle.std.proofs.lemmas.Bool.{false_from_ne_true, true≢false}
 use Rattle.std.proofs.lemmas.List.{drop-take, take-take, drop-drop}
 use Rattle.std.proofs.lemmas.Option.{none-some, same_Some}
+use Rattle.std.proofs.Math.Seq.{take-add}
 use Rattle.rv32_isa.specs.Hooks.{code_at}
 use Rattle.rv32_isa.specs.Image.{statics_at, heap_at, stack_at}
 use Rattle.rv32_isa.specs.State.{lies_in, part_of, or_else, writable}
-use Rattle.word_code.specs.Memory.{Memory, as_state, bytes_at}
+use Rattle.word_code.specs.Memory.{Memory, as_state, bytes_at, may_fill}
 use Rattle.word_code.specs.RoutineTable.{Cell, Area}
 use Rattle.word_code.proofs.ForCallers.{Sized}
 
@@ -189,6 +190,29 @@ module _ (m : Memory) (sized : Sized m) where
       let low = x.low in
       let high = x.high in
       x.region.writes (at + i) k (omega (arith, low)) (omega (arith, high, within))
+
+  -- two ranges, one behind the other
+  pub joined_read : (at : ℕ) (xs ys : List ℕ) → may_fill m at (length xs + length ys) ≡ true → bytes_at m at (length xs) ≡ Some xs
+      → bytes_at m (at + length xs) (length ys) ≡ Some ys → bytes_at m at (length xs + length ys) ≡ Some (xs ++ ys)
+  joined_read at [] ys may first rest =
+      let e : at + 0 ≡ at = omega arith in
+      let n : length {A = ℕ} [] + length ys ≡ length ys = omega arith in
+      ap (bytes_at m at) n ∙ ap (λ a. bytes_at m a (length ys)) (sym e) ∙ rest
+  joined_read at (x ∷ xs) ys may first rest =
+      let r = written_in at (suc (length xs) + length ys) (omega arith) may in
+      let low = r.low in
+      let high = r.high in
+      let region = r.region in
+      let j : ℕ = at - region.base in
+      let front : take (suc (length xs)) (drop j region.bytes) ≡ x ∷ xs
+      = same_Some (take (suc (length xs)) (drop j region.bytes)) (x ∷ xs) (sym (region.reads at (suc (length xs)) low (omega (arith, high))) ∙ first) in
+      let next : take (length ys) (drop (at + suc (length xs) - region.base) region.bytes) ≡ ys
+      = same_Some (take (length ys) (drop (at + suc (length xs) - region.base) region.bytes)) ys
+      (sym (region.reads (at + suc (length xs)) (length ys) (omega (arith, low)) (omega (arith, high))) ∙ rest) in
+      let place : j + suc (length xs) ≡ at + suc (length xs) - region.base = omega (arith, low) in
+      region.reads at (suc (length xs) + length ys) low high
+      ∙ ap Some (take-add (suc (length xs)) (length ys) (drop j region.bytes)
+      ∙ ap₂ (λ u v. u ++ v) front (ap (take (length ys)) (drop-drop (suc (length xs)) j region.bytes ∙ ap (λ k. drop k region.bytes) place) ∙ next))
 
   -- a byte in front of others
   pub byte_before : (at n b : ℕ) (bytes : List ℕ) → InRegion at (suc n) → bytes_at m at 1 ≡ Some (b ∷ []) → bytes_at m (at + 1) n ≡ Some bytes

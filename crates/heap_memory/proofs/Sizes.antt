@@ -8,7 +8,8 @@ use Rattle.rv32_isa.specs.Values.{shifted_left, shifted_right}
 use Rattle.nim_types.specs.declared.blocks.TheConstants.{HEADER_BYTES}
 use Rattle.nim_meaning.specs.Heap.{Class, sizes_from, size_count, class_for}
 use Rattle.word_code.specs.Memory.{Memory}
-use Rattle.heap_memory.specs.HeapBlocks.{size_at}
+use Rattle.heap_memory.specs.declared.numbers.TheConstants.{CONTENTS_KIND}
+use Rattle.heap_memory.specs.HeapBlocks.{first_word, size_at}
 use Rattle.heap_memory.specs.HeapState.{Stands, IsHeap}
 use Rattle.heap_memory.specs.HeapRoutines.{class_word, class_of}
 
@@ -38,6 +39,14 @@ size_most class few = size_within class size_count few
 pub size_shifted : (class : ℕ) → class ≤ size_count → shifted_left 8 (suc class) ≡ size_at class
 size_shifted class few =
     let n : suc class % 32 ≡ suc class = omega (arith, few) in
+    let p = size_power class in
+    let m = size_most class few in
+    ap (λ k. 8 * 2 ^ k % 2 ^ 32) n ∙ ap (λ k. k % 2 ^ 32) p ∙ omega (arith, m)
+
+-- by the first word of its header, whose low five bits are its place among the sizes
+pub size_by_header : (class : ℕ) → class ≤ size_count → shifted_left 8 (first_word CONTENTS_KIND class) ≡ size_at class
+size_by_header class few =
+    let n : first_word CONTENTS_KIND class % 32 ≡ suc class = omega (arith, few) in
     let p = size_power class in
     let m = size_most class few in
     ap (λ k. 8 * 2 ^ k % 2 ^ 32) n ∙ ap (λ k. k % 2 ^ 32) p ∙ omega (arith, m)

@@ -6,6 +6,7 @@ use Rattle.nim_meaning.specs.Values.{Value, Values, Nil, More, nth, count, joine
 use Rattle.nim_meaning.specs.State.{World}
 use Rattle.holders.specs.Holders.{held_by, held_in}
 use Rattle.holders.specs.Owned.{HasNone, Extent, Has, a_number, no_text, no_sequence, a_row, some_parts, of_wrapped, HasEach, none_more, one_more, HasAll}
+use Rattle.holders.specs.Owned.{Constant, a_text, constant_text, a_sequence, constant_sequence}
 use Rattle.holders.specs.Owned.{no_parts}
 use Rattle.holders.specs.Owned.{a_part}
 use Rattle.holders.specs.Owned.{HasBlocksAlone, HaveBlocksAlone}
@@ -170,6 +171,31 @@ module _ (world : World) (x : Extent) where
     blanks_have : (fs : Forms) → HaveBlocksAlone fs → HasAll world x fs 0 (blanks fs) []
     blanks_have no_forms s = no_parts refl
     blanks_have (forms f fs) s = a_part {bs = []} {cs = []} (omega arith) (blank_has f s.0) (all_further (blank f) (blanks_have fs s.1))
+
+-- a blank of a form of which something is there
+module _ {world : World} where
+  mutual
+    pub blank_instead : {f : Form} {v : Value} {bs : List ℕ} → Has world Constant f v bs → Has world Constant f (blank f) []
+    blank_instead a_number = a_number
+    blank_instead no_text = no_text
+    blank_instead (a_text long base) = no_text
+    blank_instead constant_text = no_text
+    blank_instead no_sequence = no_sequence
+    blank_instead (a_sequence base each) = no_sequence
+    blank_instead (constant_sequence each) = no_sequence
+    blank_instead (a_row {n = n} {f = f} counted each) = a_row (count_repeated world Constant n (blank f)) (row_instead each)
+    blank_instead (some_parts all) = some_parts (parts_instead all)
+    blank_instead (of_wrapped h) = of_wrapped (blank_instead h)
+
+    row_instead : {f : Form} {n i : ℕ} {vs : Values} {bs : List ℕ} → HasEach world Constant f n i vs bs
+        → HasEach world Constant f n 0 (repeated n (blank f)) []
+    row_instead none_more = none_more
+    row_instead {f} (one_more {n = n} less h more) = each_repeated world Constant (suc n) (blank f) (blank_instead h)
+
+    parts_instead : {fs : Forms} {i : ℕ} {vs : Values} {bs : List ℕ} → HasAll world Constant fs i vs bs → HasAll world Constant fs 0 (blanks fs) []
+    parts_instead (no_parts e) = no_parts refl
+    parts_instead (a_part {f = f} less h more) =
+        a_part {bs = []} {cs = []} (omega arith) (blank_instead h) (all_further world Constant (blank f) (parts_instead more))
 
 pub repeated_none : (k n : ℕ) (v : Value) → HasNone v → held_in k (repeated n v) ≡ 0
 repeated_none k zero v h = refl

@@ -191,9 +191,10 @@ module _ (facts : Facts) (r : Region) (ms os : List Owner) (first places : ℕ) 
         Sure (operates O.SetLength facts None (a ∷ b ∷ []) (At l ∷ y ∷ [])) (OutHere None) now
     length_row f e hooks rows b y seen =
         operated facts r ms os first places nodes old start O.SetLength None (a ∷ b ∷ []) (At l ∷ y ∷ []) (OutHere None) now (λ q. seen)
-        (λ q. subst (λ g. Sure (counted (number (At l ∷ y ∷ []) 1) (λ m. length_to g m l)) (OutHere None) now) (sym e)
+        (λ q. sure_assigns s.runs.territory (found_chain found) (counted (number (At l ∷ y ∷ []) 1) (λ m. length_to (form_for facts a) m l)) (OutHere None)
+        (subst (λ g. Sure (counted (number (At l ∷ y ∷ []) 1) (λ m. length_to g m l)) (OutHere None) now) (sym e)
         (counted_sure (number (At l ∷ y ∷ []) 1) (λ m. length_to f m l) (OutHere None) now
-        (λ m. moved_none (length_to f m l) (sure_answer (lengthened f m) nothing nothing MovesHere now (rows m)))))
+        (λ m. moved_none (length_to f m l) (sure_answer (lengthened f m) nothing nothing MovesHere now (rows m))))))
         (λ q. no_bare None (b ∷ []) (has_hooks facts r ms os first places nodes old start a e hooks) q)
       where
         lengthened : Form → ℕ → Deed (Unit {0})
@@ -223,9 +224,11 @@ module _ (facts : Facts) (r : Region) (ms os : List Owner) (first places : ℕ) 
         let c = found_chain (subst (λ f. Found (ms ++ os) now true n steps f l) q.is found) in
         let popped : Form → Deed Value = λ f. shortened (element_form_of f) (length_of (load now l)) l now in
         operated facts r ms os first places nodes old start O.Pop ty (a ∷ []) (At l ∷ []) (OutHere ty) now (λ e. seen)
-        (λ e. subst (λ f. Sure (popped f) (OutHere ty) now) (sym q.is)
+        (λ e. sure_assigns s.runs.territory (found_chain found)
+        (looks λ world. shortened (element_form_of (form_for facts a)) (length_of (load world l)) l world) (OutHere ty)
+        (subst (λ f. Sure (popped f) (OutHere ty) now) (sym q.is)
         (handed_out ty (popped (elements q.form))
-        (ap (form_for facts) (sym (same_type parts.1) ∙ q.element) ∙ q.form_is) (pops_element s.runs.territory c)))
+        (ap (form_for facts) (sym (same_type parts.1) ∙ q.element) ∙ q.form_is) (pops_element s.runs.territory c))))
         (λ e. no_bare ty [] (has_hooks facts r ms os first places nodes old start a q.is refl) e)
 
     -- ---- a number is updated

@@ -1,7 +1,7 @@
 -- Paths are read as their uses ask.
 use Rattle.std.proofs.Common.{◌≡◌, refl, sym, subst, ℕ, Bool, true, false, List, [], ◌∷◌, ◌++◌, Option}
 use Rattle.nim_types.specs.Types.{Ty}
-use Rattle.nim_types.specs.Forms.{Form}
+use Rattle.nim_types.specs.Forms.{Form, plain, reference, block, elements, row, parts, resource, wrapped}
 use Rattle.nim_plan.specs.declared.plan.Act.{Act}
 use Rattle.nim_program.specs.Program.{Path, type_at, node_at}
 use Rattle.nim_program.specs.declared.operation.Use.{Use}
@@ -16,10 +16,10 @@ use Rattle.nim_meaning.specs.Deeds.{Waits, changed}
 use Rattle.nim_meaning.specs.Lifted.{copied}
 use Rattle.nim_meaning.specs.Here.{Here, gives_hooked, form_for, act_at}
 use Rattle.nim_meaning.specs.Aims.{Aim, find}
-use Rattle.nim_meaning.specs.Places.{fetched, taken_by}
+use Rattle.nim_meaning.specs.Places.{fetched, looked, looked_as, taken_by}
 use Rattle.nim_meaning.specs.Shapes.{has_node}
 use Rattle.nim_meaning.specs.Steps.{at_node, at_path, got, got_by, destination}
-use Rattle.holders.specs.Owned.{Constant, Has}
+use Rattle.holders.specs.Owned.{Constant, Has, of_wrapped}
 use Rattle.holders.specs.Sure.{Sure, Comes}
 use Rattle.holders.specs.Territory.{Owner, NoBaseOf}
 use Rattle.holders.specs.Finding.{Read, Fetched, Found, AimsAt, steps_of}
@@ -27,6 +27,8 @@ use Rattle.holders.specs.Handing.{HandsOut}
 use Rattle.holders.specs.Running.{Region}
 use Rattle.holders.specs.Staging.{Stage, Holding}
 use Rattle.holders.specs.Used.{ReadThere, WaitsThere, Used, read_by}
+use Rattle.holders.proofs.ElementLists.{blank_instead}
+use Rattle.holders.proofs.Guards.{sure_takes}
 use Rattle.holders.proofs.Sure.{sure_then, sure_weaker}
 use Rattle.holders.proofs.Finding.{finds}
 use Rattle.holders.proofs.PlainRows.{read_found, fetches}
@@ -57,6 +59,23 @@ module _ (r : Region) (ms gs : List Owner) (first places : ℕ) (nodes old : Lis
         has = subst (λ w. Has w Constant f v g.blocks) (sym g.same) g.has;
       })
 
+  -- what is looked at of it
+  looked_has : {world : World} (f : Form) (v : Value) {bs : List ℕ} → Has world Constant f v bs → (cs : List ℕ) × Has world Constant f (looked_as f v) cs
+  looked_has block v {bs} h = (bs, h)
+  looked_has (wrapped f) v (of_wrapped h) = let q = looked_has f v h in (q.0, of_wrapped q.1)
+  looked_has plain v h = ([], blank_instead h)
+  looked_has reference v h = ([], blank_instead h)
+  looked_has (elements f) v h = ([], blank_instead h)
+  looked_has (row n f) v h = ([], blank_instead h)
+  looked_has (parts fs) v h = ([], blank_instead h)
+  looked_has (resource fs) v h = ([], blank_instead h)
+
+  looks_at : {f : Form} {l : Location} {now : World} → Stage r ms gs first places nodes old start now → Read f l now → Sure (looked f l) (Read_so f) now
+  looks_at {f} {l} {now} s source =
+      let q = looked_has f source.value source.has in
+      sure_takes (λ world v. deeds.costs (bytes v) (deeds.give (looked_as f v))) (Read_so f) source.from tt source.has
+      (record { stage = s; blocks = q.0; has = q.1 })
+
   copies : {f : Form} {l : Location} {now : World} → Stage r ms gs first places nodes old start now → Read f l now → Sure (copied f l) (Holding_so f) now
   copies {f} {l} {now} s source =
       sure_weaker (copied f l) (HandsOut f (ms ++ gs) [] s.runs.territory.blocks now) (Holding_so f) now (copies_out s.runs.territory source)
@@ -82,7 +101,7 @@ module _ (r : Region) (ms gs : List Owner) (first places : ℕ) (nodes old : Lis
       NoBaseOf (Waiting r.level node) (ms ++ gs) → Stage r ms gs first places nodes old start now → Read f l now →
       Sure (taken_by hooked f (record { how = how; level = r.level; node = node }) act l) (Used_so hooked how f node) now
   taken false how node act mine off s source = reads s source
-  taken true Looked node act mine off s source = reads s source
+  taken true Looked node act mine off s source = looks_at s source
   taken {f} {l} {now} true Owned node act mine off s source =
       sure_then (copied f l) deeds.give (Holding_so f) (Holding_so f) now (copies s source) (λ v after h. h)
   taken {f} {l} {now} true Given node act mine off s source =

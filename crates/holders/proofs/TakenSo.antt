@@ -32,7 +32,7 @@ use Rattle.holders.specs.Running.{Region}
 use Rattle.holders.specs.Staging.{Holding, StageWith}
 use Rattle.holders.proofs.Sure.{sure_weaker, sure_answer}
 use Rattle.holders.proofs.Owning.{in_first, plain_anywhere}
-use Rattle.holders.proofs.Operations.{adds_element}
+use Rattle.holders.proofs.Operations.{adds_element, sure_assigns}
 use Rattle.holders.proofs.Staging.{stage_takes, out_as}
 use Rattle.holders.specs.Asked.{Limits, IfSimple, ActAsked, AllAsked, AllWrite}
 use Rattle.holders.specs.Evaluating.{operand_nodes, at_nodes}
@@ -82,12 +82,13 @@ module _ (here : Here) (limits : Limits) (root : (global : Bool) → ℕ → ℕ
       let P : World → Type 0 = λ after. Moves (ms ++ os) h.under.given h.stage.runs.territory.blocks now after in
       let hooks = has_hooks here.facts r ms os first places nodes old start a e.is refl in
       operated here.facts r ms os first places nodes old start O.Add None (a ∷ b ∷ []) (At l ∷ Given v ∷ []) OutNone now (λ z. seen)
-      (λ z. subst (λ f. Sure (added (element_form_of f) v l >> give nothing) OutNone now) (sym e.is)
+      (λ z. sure_assigns h.stage.runs.territory (found_chain found) (added (element_form_of (form_for here.facts a)) v l >> give nothing) OutNone
+      (subst (λ f. Sure (added (element_form_of f) v l >> give nothing) OutNone now) (sym e.is)
       (out_none here.facts r ms os first places nodes old start (added e.form v l >> give nothing) now
       (sure_weaker (added e.form v l >> give nothing) (λ x after. P after × (x ≡ nothing))
       (λ x after. At_stage here.facts r ms os first places nodes old start after × (x ≡ nothing)) now
       (sure_answer (added e.form v l) nothing nothing P now (adds_element h.stage.runs.territory c h.under))
-      (λ x after m. (stage_takes r os first places old start h m.0, m.1)))))
+      (λ x after m. (stage_takes r os first places old start h m.0, m.1))))))
       (λ z. absurd (false≢true (sym z ∙ or_left (gives_hooked here.facts a) (any_hooked here.facts (b ∷ [])) hooks)))
 
   add_of : {out : ℕ → ℕ} (s : StageWith out r ms os first places nodes old start now) (ty : Option Ty) (args : Args) {xs : List Operand} {given : List ℕ} →

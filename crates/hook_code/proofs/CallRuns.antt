@@ -175,10 +175,10 @@ module _ (table : List TypeDef) (z : Surroundings table) (live : Lives) (procs :
 
     -- ---- the routines of sequences
 
-    place_small : (of t : ℕ) (full : Bool) (r : HasPair table z h own d temps v of full t) → r.place < 2 ^ 32
-    place_small of t full r = (z.handle_small d r.value t r.length r.place r.handle).1
+    place_small : (of t : ℕ) (full o : Bool) (r : HasPair table z h own d temps v of full o t) → r.place < 2 ^ 32
+    place_small of t full o r = (z.handle_small o d r.value t r.length r.place r.handle).1
 
-    pub give_back_line : (most : ℕ → ℕ) → ((n : ℕ) → 1 + release_most ≤ most (1 + n)) → (j of t other : ℕ) → Holds e of true t → e.at j ≡ Some (true, t) →
+    pub give_back_line : (most : ℕ → ℕ) → ((n : ℕ) → 1 + release_most ≤ most (1 + n)) → (j of t other : ℕ) → Holds e of true true t → e.at j ≡ Some (true, t) →
         IsHandled (slice_get table t)
         → S e most (does_it (O.GiveBack other j of)) (released of k)
     give_back_line most few j of t other holds there handles =
@@ -205,8 +205,8 @@ module _ (table : List TypeDef) (z : Surroundings table) (live : Lives) (procs :
         l : Location
         l = p.location
 
-        r : HasPair table z h own d temps v of true t
-        r = b.knows.has of (true, t) holds
+        r : HasPair table z h own d temps v of true true t
+        r = b.knows.has of (true, (true, t)) holds
 
         bytes : ℕ
         bytes = 8 + length_of r.value * size (element_form (form_in known other))
@@ -227,9 +227,9 @@ module _ (table : List TypeDef) (z : Surroundings table) (live : Lives) (procs :
             → Out e k behind (done_then (perform (frees (block_of r.value)) (store w l Vacant)) (λ u new. perform (give temps) new)) (St b code)
         done_now is_own here =
             let after = z.empties low (own + LIST_BYTES) hand d w b.memory l p.address t b.here p.leads handles here in
-            let small = place_small of t true r in
+            let small = place_small of t true true r in
             let runs = run_argument live procs cw b.memory (W.Call ADDRESS RELEASE ∷ k) v b.given 0 (of + 3) r.contents in
-            let handle = z.handle_later d after.0 r.value t r.length r.place after.1 r.handle in
+            let handle = z.handle_later true d after.0 r.value t r.length r.place after.1 r.handle in
             comes_of code k v (put b.given 0 r.place) ADDRESS RELEASE 1 runs e (λ u. temps) after.0 (AnyWord table z live procs fresh) behind
             (λ n. release_most) 0 enough (perform (frees (block_of r.value)) (store w l Vacant))
             (routines.releases low (own + LIST_BYTES) hand after.0 (store w l Vacant)
@@ -244,7 +244,7 @@ module _ (table : List TypeDef) (z : Surroundings table) (live : Lives) (procs :
             (knows_later table z h own d e temps v b.knows back.after (z.still_later d after.0 back.after after.1 back.ahead)) (put v ADDRESS back.word)
             (kept_between v v ADDRESS back.word (omega arith) (kept_none v))))
 
-    pub forget_line : (most : ℕ → ℕ) → (of count t el : ℕ) → Holds e of true t → e.counts count ≡ true → slice_get table t ≡ Some (D.Seq el)
+    pub forget_line : (most : ℕ → ℕ) → (of count t el : ℕ) → Holds e of true true t → e.counts count ≡ true → slice_get table t ≡ Some (D.Seq el)
         → S e most (does_it (O.Forget of count)) k
     forget_line most of count t el holds has seq =
         subst (λ o. S e most (using o (λ u. using_number temps count (λ i. go u i))) k) (sym r.there)
@@ -254,8 +254,8 @@ module _ (table : List TypeDef) (z : Surroundings table) (live : Lives) (procs :
         (stays (perform deed w)
         (routines.forgets low (own + LIST_BYTES) hand d w b.memory r.value t el r.length r.place q.number b.here seq r.sure r.handle)))))
       where
-        r : HasPair table z h own d temps v of true t
-        r = b.knows.has of (true, t) holds
+        r : HasPair table z h own d temps v of true true t
+        r = b.knows.has of (true, (true, t)) holds
 
         q : HasCount table z h own temps v count
         q = b.knows.counts count has
@@ -291,14 +291,14 @@ module _ (table : List TypeDef) (z : Surroundings table) (live : Lives) (procs :
         stays (Fails es n w1) s = tt
 
     -- a sequence gets a block
-    pub take_line : (most : ℕ → ℕ) → ((n : ℕ) → 5 + (take_most + 4 * n) ≤ most (1 + n)) → (to j of t el : ℕ) → IsPair to → Holds e of true t →
+    pub take_line : (most : ℕ → ℕ) → ((n : ℕ) → 5 + (take_most + 4 * n) ≤ most (1 + n)) → (to j of t el : ℕ) (o : Bool) → IsPair to → Holds e of true o t →
         e.at j ≡ Some (true, ty)
         → slice_get table ty ≡ Some (D.Seq el)
-        → S (handled e to true ty) most (does_it (O.Take ty to j of)) (taken to j of (bytes_at table el) k)
-    take_line most few to j of t el is holds there typed =
+        → S (handled e to true true ty) most (does_it (O.Take ty to j of)) (taken to j of (bytes_at table el) k)
+    take_line most few to j of t el owned is holds there typed =
         subst (λ o. S f most (using o (λ u. using (temps.places j) (λ place. go u (location_at temps place)))) code) (sym r.there)
         (subst (λ o. S f most (using o (λ place. go r.value (location_at temps place))) code) (sym p.place)
-        (subst (λ n. S f most (gives x to (costs 1 (taken_for element n l))) code) (sym (z.length_is d r.value t r.length r.place r.sure r.handle))
+        (subst (λ n. S f most (gives x to (costs 1 (taken_for element n l))) code) (sym (z.length_is owned d r.value t r.length r.place r.sure r.handle))
         (worked table z live procs fresh h own c began joined f k (St b code) most 1 (perform (taken_for element r.length l >>= put_it) w)
         (subst (λ done. Out f k behind done (St b code)) (sym (performs_then (taken_for element r.length l) put_it w))
         (comes_of code (W.Copy to of ∷ k) v1 g3 (to + 3) SEQ_NEW 4 runs f (λ u. with_value to temps u) d gives_it behind called 1 enough
@@ -308,7 +308,7 @@ module _ (table : List TypeDef) (z : Surroundings table) (live : Lives) (procs :
         went)))))
       where
         f : Env
-        f = handled e to true ty
+        f = handled e to true true ty
 
         behind : ℕ → ℕ
         behind n = most (1 + n)
@@ -331,11 +331,11 @@ module _ (table : List TypeDef) (z : Surroundings table) (live : Lives) (procs :
         l : Location
         l = p.location
 
-        r : HasPair table z h own d temps v of true t
-        r = b.knows.has of (true, t) holds
+        r : HasPair table z h own d temps v of true owned t
+        r = b.knows.has of (true, (owned, t)) holds
 
         small : r.length < 2 ^ 32
-        small = (z.handle_small d r.value t r.length r.place r.handle).0
+        small = (z.handle_small owned d r.value t r.length r.place r.handle).0
 
         element : Form
         element = element_form (form_in known ty)
@@ -347,7 +347,7 @@ module _ (table : List TypeDef) (z : Surroundings table) (live : Lives) (procs :
         put_it u = give (with_value to temps u)
 
         gives_it : Value → z.Blocks → ℕ → Type 0
-        gives_it u d1 word = IsFull u × z.IsHandle d1 ty u r.length (word % 2 ^ 32)
+        gives_it u d1 word = IsFull u × z.IsHandle true d1 ty u r.length (word % 2 ^ 32)
 
         v1 : Vars
         v1 = put v ADDRESS n
@@ -403,13 +403,13 @@ module _ (table : List TypeDef) (z : Surroundings table) (live : Lives) (procs :
             let of_there : vars3 of ≡ Some r.length = put_there v1 (to + 3) back.word of (λ g. omega (arith, g, few, low_to))
             ∙ (put_there v ADDRESS n of (λ g. omega (arith, g, few)) ∙ r.long) in
             let whole : r.length % 2 ^ 32 ≡ r.length = omega (arith, small) in
-            let handle = subst (λ m. z.IsHandle back.after ty u m (back.word % 2 ^ 32)) (sym whole) back.gives.1 in
+            let handle = subst (λ m. z.IsHandle true back.after ty u m (back.word % 2 ^ 32)) (sym whole) back.gives.1 in
             back_reached code (W.Copy to of ∷ k) v1 g3 (to + 3) SEQ_NEW 4 runs f (λ u. with_value to temps u) d gives_it behind called 1 enough works u w1 back
             (z.same d) (with_value to temps u) refl vars4 (run_copy live procs (W_c (to + 3)) back.memory k vars3 no_words to of of_there)
             (knows_kept table z h own back.after f (with_value to temps u) (put (put v to r.length) (to + 3) back.word)
             (knows_pair table z h own back.after e temps v (knows_later table z h own d e temps v b.knows back.after back.ahead) to ty r.length back.word
-            true u is
-            handle back.gives.0) vars4 (λ i le. by i le (cases_eq i to) (cases_eq i (to + 3))))
+            true true u is
+            handle back.gives.0 tt) vars4 (λ i le. by i le (cases_eq i to) (cases_eq i (to + 3))))
           where
             by : (i : ℕ) → i ≤ 10 → (i ≡ to) ⊎ (i ≢ to) → (i ≡ to + 3) ⊎ (i ≢ to + 3)
                 → put (put v1 (to + 3) back.word) to r.length i ≡ put (put v to r.length) (to + 3) back.word i

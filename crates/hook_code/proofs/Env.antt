@@ -10,11 +10,11 @@ use Rattle.hook_lifting.specs.declared.lifted.LiftedLine.TheVariants as O
 use Rattle.hook_code.specs.Surroundings.{IsHandled, IsDistinct, plain_parts}
 use Rattle.hook_code.specs.Promises.{from_own}
 
--- Of locations whether a value may be put there, and the types; of handles the types, and whether they are surely there; which numbers there are, and
--- whether the next one of the loop's has 32 bits; and the type of the value under way, if there is one.
+-- Of locations whether a value may be put there, and the types; of handles whether they are surely there, and may be put to a place, and the types; which
+-- numbers there are, and whether the next one of the loop's has 32 bits; and the type of the value under way, if there is one.
 pub record Env : Type 0 where
   pub at : ℕ → Option (Bool × ℕ)
-  pub has : ℕ → Option (Bool × ℕ)
+  pub has : ℕ → Option (Bool × (Bool × ℕ))
   pub counts : ℕ → Bool
   pub small : Bool
   pub begun : Option ℕ
@@ -31,17 +31,22 @@ IsCount t = (t ≡ 4) ⊎ ((t ≡ 5) ⊎ (t ≡ 8))
 abbrev pub IsPair : ℕ → Type 0
 IsPair t = (t ≡ 6) ⊎ (t ≡ 7)
 
+-- What may not be put to a place is from where a hook works from.
+abbrev pub IsFrom : (own : Bool) → (place : ℕ) → Type 0
+IsFrom true j = Unit {0}
+IsFrom false j = j ≡ 1
+
 -- a location leads to a type, or to the value under way, of that type
 abbrev pub LeadsBy : Env → (place : ℕ) → (own : Bool) → (ty : ℕ) → Type 0
 LeadsBy e j o ty = (e.at j ≡ Some (o, ty)) ⊎ ((j ≡ 2) × (e.begun ≡ Some ty) × (o ≡ true))
 
-abbrev pub Holds : Env → (t : ℕ) → (full : Bool) → (ty : ℕ) → Type 0
-Holds e t full ty = e.has t ≡ Some (full, ty)
+abbrev pub Holds : Env → (t : ℕ) → (full own : Bool) → (ty : ℕ) → Type 0
+Holds e t full o ty = e.has t ≡ Some (full, (o, ty))
 
 -- what is known of one is known of another too
 pub record Covers (e f : Env) : Type 0 where
   pub at : (j : ℕ) (x : Bool × ℕ) → f.at j ≡ Some x → e.at j ≡ Some x
-  pub has : (t : ℕ) (x : Bool × ℕ) → f.has t ≡ Some x → e.has t ≡ Some x
+  pub has : (t : ℕ) (x : Bool × (Bool × ℕ)) → f.has t ≡ Some x → e.has t ≡ Some x
   pub counts : (t : ℕ) → f.counts t ≡ true → e.counts t ≡ true
   pub small : f.small ≡ true → e.small ≡ true
   pub begun : e.begun ≡ f.begun
@@ -59,14 +64,14 @@ located e to o t = record e { at = set e.at to (Some (o, t)) }
 abbrev pub led : Env → (to : ℕ) → (own : Bool) → (ty : ℕ) → Env
 led e to o t = record e { at = set e.at to (Some (o, t)); small = true }
 
-abbrev pub handled : Env → (to : ℕ) → (full : Bool) → (ty : ℕ) → Env
-handled e to full t = record e { has = set e.has to (Some (full, t)) }
+abbrev pub handled : Env → (to : ℕ) → (full own : Bool) → (ty : ℕ) → Env
+handled e to full o t = record e { has = set e.has to (Some (full, (o, t))) }
 
 abbrev pub under_way : Env → (ty : ℕ) → Env
 under_way e t = record e { at = set e.at 2 None; begun = Some t }
 
 abbrev pub over : Env → (to ty : ℕ) → Env
-over e to t = record e { has = set e.has to (Some (false, t)); begun = None }
+over e to t = record e { has = set e.has to (Some (false, (true, t))); begun = None }
 
 module _ (table : List TypeDef) (ty : ℕ) (joined : ℕ → Env) (IsDone : Hook → ℕ → Type 0) where
   abbrev pub part_type : (part : ℕ) → Option ℕ
@@ -88,28 +93,28 @@ module _ (table : List TypeDef) (ty : ℕ) (joined : ℕ → Env) (IsDone : Hook
     a_base : {e : Env} {hook : Hook} {base : ℕ} {o : Bool} → e.at 0 ≡ Some (true, ty) → e.at 1 ≡ Some (o, ty) → (from_own hook ≡ true → o ≡ true)
         → IsDistinct (slice_get table ty) base → IsDone hook base
         → Fits e (O.Hook hook base 0 1) e
-    a_load : {e : Env} {to at t : ℕ} {o : Bool} → IsPair to → e.at at ≡ Some (o, t) → IsHandled (slice_get table t) →
-        Fits e (O.Load to at) (handled e to true t)
-    a_count : {e : Env} {to of t : ℕ} → IsCount to → Holds e of true t → Fits e (O.Count to of) (counted e to)
+    a_load : {e : Env} {to at t : ℕ} {o : Bool} → IsPair to → e.at at ≡ Some (o, t) → IsFrom o at → IsHandled (slice_get table t) →
+        Fits e (O.Load to at) (handled e to true o t)
+    a_count : {e : Env} {to of t : ℕ} {o : Bool} → IsCount to → Holds e of true o t → Fits e (O.Count to of) (counted e to)
     a_number : {e : Env} {to n : ℕ} → IsCount to → n < 2 ^ 32 → Fits e (O.Number to n) (counted e to)
-    an_element : {e : Env} {to of at el : ℕ} {o : Bool} → IsPart to → Holds e of true ty → e.at at ≡ Some (o, ty) → slice_get table ty ≡ Some (D.Seq el)
-        → e.counts 4 ≡ true → e.begun ≡ None → Fits e (O.Element to of at 4) (led e to o el)
+    an_element : {e : Env} {to of at el : ℕ} {o : Bool} → IsPart to → Holds e of true o ty → e.at at ≡ Some (o, ty) → IsFrom o at
+        → slice_get table ty ≡ Some (D.Seq el) → e.counts 4 ≡ true → e.begun ≡ None → Fits e (O.Element to of at 4) (led e to o el)
     a_member : {e : Env} {to at n el : ℕ} {o : Bool} → IsPart to → e.at at ≡ Some (o, ty) → slice_get table ty ≡ Some (D.Array n el) → n < 2 ^ 32
         → e.counts 4 ≡ true → e.begun ≡ None → Fits e (O.Member to at 4 n) (led e to o el)
-    a_take : {e : Env} {to at of t el : ℕ} → IsPair to → Holds e of true t → e.at at ≡ Some (true, ty) → slice_get table ty ≡ Some (D.Seq el)
-        → Fits e (O.Take ty to at of) (handled e to true ty)
-    a_give_back : {e : Env} {at of t other : ℕ} → Holds e of true t → e.at at ≡ Some (true, t) → IsHandled (slice_get table t) →
+    a_take : {e : Env} {to at of t el : ℕ} {o : Bool} → IsPair to → Holds e of true o t → e.at at ≡ Some (true, ty) → slice_get table ty ≡ Some (D.Seq el)
+        → Fits e (O.Take ty to at of) (handled e to true true ty)
+    a_give_back : {e : Env} {at of t other : ℕ} → Holds e of true true t → e.at at ≡ Some (true, t) → IsHandled (slice_get table t) →
         Fits e (O.GiveBack other at of) e
     a_trade : {e : Env} {to from t : ℕ} → e.at to ≡ Some (true, t) → e.at from ≡ Some (true, t) → IsHandled (slice_get table t) → Fits e (O.Trade to from) e
     a_begin : {e : Env} {t : ℕ} → e.begun ≡ None → IsHandled (slice_get table t) → Fits e (O.Begin t 2) (under_way e t)
-    a_push : {e : Env} {of t : ℕ} {full : Bool} → e.begun ≡ None → Holds e of full t → IsHandled (slice_get table t) → Fits e (O.Push 2 of) (under_way e t)
+    a_push : {e : Env} {of t : ℕ} {full : Bool} → e.begun ≡ None → Holds e of full true t → IsHandled (slice_get table t) → Fits e (O.Push 2 of) (under_way e t)
     a_pop : {e : Env} {to t : ℕ} → IsPair to → e.begun ≡ Some t → IsHandled (slice_get table t) → Fits e (O.Pop to 2) (over e to t)
-    an_exchange : {e : Env} {to at of t : ℕ} {full : Bool} → IsPair to → e.at at ≡ Some (true, t) → Holds e of full t → (of ≡ to → ⊥)
-        → IsHandled (slice_get table t) → Fits e (O.Exchange to at of) (handled e to true t)
+    an_exchange : {e : Env} {to at of t : ℕ} {full : Bool} → IsPair to → e.at at ≡ Some (true, t) → Holds e of full true t → (of ≡ to → ⊥)
+        → IsHandled (slice_get table t) → Fits e (O.Exchange to at of) (handled e to true true t)
     a_copy : {e : Env} {to of : ℕ} → IsCount to → IsCount of → e.counts of ≡ true → Fits e (O.Copy to of) (counted e to)
-    a_shorten : {e : Env} {at of count t el : ℕ} → Holds e of true t → e.at at ≡ Some (true, t) → IsCount count → e.counts count ≡ true
+    a_shorten : {e : Env} {at of count t el : ℕ} → Holds e of true true t → e.at at ≡ Some (true, t) → IsCount count → e.counts count ≡ true
         → IsHandled (slice_get table t) → slice_get table t ≡ Some (D.Seq el) → Fits e (O.Shorten at of count) e
-    a_forget : {e : Env} {of count t el : ℕ} → Holds e of true t → IsCount count → e.counts count ≡ true → slice_get table t ≡ Some (D.Seq el)
+    a_forget : {e : Env} {of count t el : ℕ} → Holds e of true true t → IsCount count → e.counts count ≡ true → slice_get table t ≡ Some (D.Seq el)
         → Fits e (O.Forget of count) e
 
   pub data AllFit : Env → List LiftedLine → Type 0 where

@@ -28,7 +28,7 @@ abbrev last : List LiftedLine
 last = O.Plain (L.Return None) ∷ []
 
 -- the numbers of a loop, with such handles
-abbrev no_pair : ℕ → Option (Bool × ℕ)
+abbrev no_pair : ℕ → Option (Bool × (Bool × ℕ))
 no_pair t = None
 
 abbrev no_count : ℕ → Bool
@@ -38,18 +38,18 @@ no_count t = false
 abbrev loop_counts : (always : ℕ → Bool) → ℕ → Bool
 loop_counts always = set (set always 5 true) 4 true
 
-abbrev pub copied_pairs : (ty : ℕ) → ℕ → Option (Bool × ℕ)
-copied_pairs ty = set (set no_pair 7 (Some (true, ty))) 6 (Some (true, ty))
+abbrev pub copied_pairs : (ty : ℕ) → ℕ → Option (Bool × (Bool × ℕ))
+copied_pairs ty = set (set no_pair 7 (Some (true, (false, ty)))) 6 (Some (true, (true, ty)))
 
-abbrev pub ended_pair : (ty : ℕ) → ℕ → Option (Bool × ℕ)
-ended_pair ty = set no_pair 6 (Some (true, ty))
+abbrev pub ended_pair : (ty : ℕ) → ℕ → Option (Bool × (Bool × ℕ))
+ended_pair ty = set no_pair 6 (Some (true, (true, ty)))
 
 -- what is known at the labels of a loop
-abbrev pub at_labels_of : (places : ℕ → Option (Bool × ℕ)) → (always : ℕ → Bool) → (has : ℕ → Option (Bool × ℕ)) → (name : ℕ) → Env
+abbrev pub at_labels_of : (places : ℕ → Option (Bool × ℕ)) → (always : ℕ → Bool) → (has : ℕ → Option (Bool × (Bool × ℕ))) → (name : ℕ) → Env
 at_labels_of places always has zero = record { at = places; has = has; counts = always; small = false; begun = None }
 at_labels_of places always has (suc name) = record { at = places; has = has; counts = loop_counts always; small = false; begun = None }
 
-abbrev pub at_labels : Hook → (ty : ℕ) → (has : ℕ → Option (Bool × ℕ)) → (name : ℕ) → Env
+abbrev pub at_labels : Hook → (ty : ℕ) → (has : ℕ → Option (Bool × (Bool × ℕ))) → (name : ℕ) → Env
 at_labels hook ty has name = at_labels_of (first_at hook ty) no_count has name
 
 first_low : (hook : Hook) (ty j : ℕ) (t : Bool × ℕ) → first_at hook ty j ≡ Some t → j ≤ 1
@@ -150,7 +150,8 @@ module _ (table : List TypeDef) (ty : ℕ) (joined : ℕ → Env) (P : Hook → 
   -- ---- loops
 
   -- what is known in a loop is known at its first line
-  module _ (places : ℕ → Option (Bool × ℕ)) (low : (j : ℕ) (t : Bool × ℕ) → places j ≡ Some t → j ≤ 1) (always : ℕ → Bool) (has : ℕ → Option (Bool × ℕ))
+  module _ (places : ℕ → Option (Bool × ℕ)) (low : (j : ℕ) (t : Bool × ℕ) → places j ≡ Some t → j ≤ 1) (always : ℕ → Bool)
+      (has : ℕ → Option (Bool × (Bool × ℕ)))
       (is_first : joined 1 ≡ at_labels_of places always has 1) (is_last : joined 0 ≡ at_labels_of places always has 0) where
     abbrev inner : Env
     inner = at_labels_of places always has 1
@@ -234,18 +235,18 @@ module _ (table : List TypeDef) (ty : ℕ) (joined : ℕ → Env) (P : Hook → 
     pub copying_fits : joined 1 ≡ at_labels Copies ty (copied_pairs ty) 1 → joined 0 ≡ at_labels Copies ty (copied_pairs ty) 0 → P Copies el
         → F (first_env Copies ty) (copying_lines ty el last)
     copying_fits is_first is_last can =
-        more (a_load (inr refl) refl seq_handled) (more (a_take (inl refl) refl refl typed) (more (a_count (inr (inl refl)) refl) (more (a_zero (inl refl))
+        more (a_load (inr refl) refl refl seq_handled) (more (a_take (inl refl) refl refl typed) (more (a_count (inr (inl refl)) refl) (more (a_zero (inl refl))
         (more (a_test (inl refl) (inr (inl refl)) refl refl
         (covers_last (first_at Copies ty) (first_low Copies ty) no_count (copied_pairs ty) is_first is_last _ (λ j t is. is) refl
         (λ t is. absurd (false≢true is)) refl))
         (turns_fit (first_at Copies ty) (first_low Copies ty) no_count (copied_pairs ty) is_first is_last Copies el false (O.Element 2 6 0 4)
         (O.Element 3 7 1 4) last (λ e. e) can
-        (an_element (inl refl) refl refl typed refl refl) (an_element (inr refl) refl refl typed refl refl)
+        (an_element (inl refl) refl refl tt typed refl refl) (an_element (inr refl) refl refl refl typed refl refl)
         (last_fits Copies _ (record { to = refl; from = refl; begun = refl })) (λ t is. absurd (false≢true is)))))))
 
     pub ending_fits : joined 1 ≡ at_labels Ends ty (ended_pair ty) 1 → joined 0 ≡ at_labels Ends ty (ended_pair ty) 0 → (has_hooks table el ≡ true → P Ends el)
         → F (first_env Ends ty) (ending_lines table ty el last)
-    ending_fits is_first is_last can = more (a_load (inl refl) refl seq_handled) (by (has_hooks table el) refl)
+    ending_fits is_first is_last can = more (a_load (inl refl) refl tt seq_handled) (by (has_hooks table el) refl)
       where
         giving : List LiftedLine
         giving = O.GiveBack ty 0 6 ∷ last
@@ -253,7 +254,7 @@ module _ (table : List TypeDef) (ty : ℕ) (joined : ℕ → Env) (P : Hook → 
         loop : List LiftedLine
         loop = O.Count 5 6 ∷ loop_lines Ends el (O.Element 2 6 0 4) (O.Element 3 6 0 4) giving
 
-        by : (hooks : Bool) → has_hooks table el ≡ hooks → F (handled (first_env Ends ty) 6 true ty) (if hooks then loop else giving)
+        by : (hooks : Bool) → has_hooks table el ≡ hooks → F (handled (first_env Ends ty) 6 true true ty) (if hooks then loop else giving)
         by false is = more (a_give_back refl refl seq_handled) (last_fits Ends _ (record { to = refl; from = refl; begun = refl }))
         by true is =
             more (a_count (inr (inl refl)) refl) (more (a_zero (inl refl))
@@ -261,7 +262,7 @@ module _ (table : List TypeDef) (ty : ℕ) (joined : ℕ → Env) (P : Hook → 
             (λ j t is. is) refl (λ t is. absurd (false≢true is)) refl))
             (turns_fit (first_at Ends ty) (first_low Ends ty) no_count (ended_pair ty) is_first is_last Ends el true (O.Element 2 6 0 4) (O.Element 3 6 0 4)
             giving (λ e. refl) (can is)
-            (an_element (inl refl) refl refl typed refl refl) (an_element (inr refl) refl refl typed refl refl)
+            (an_element (inl refl) refl refl tt typed refl refl) (an_element (inr refl) refl refl tt typed refl refl)
             (more (a_give_back refl refl seq_handled) (last_fits Ends _ (record { to = refl; from = refl; begun = refl })))
             (λ t is. absurd (false≢true is)))))
 
@@ -269,14 +270,14 @@ module _ (table : List TypeDef) (ty : ℕ) (joined : ℕ → Env) (P : Hook → 
     pub cutting_fits : joined 1 ≡ at_labels_of (cut_at ty) cut_count (ended_pair ty) 1 → joined 0 ≡ at_labels_of (cut_at ty) cut_count (ended_pair ty) 0
         → P Ends el → F (cut_env ty) (cut_lines el)
     cutting_fits is_first is_last can =
-        more (a_load (inl refl) refl seq_handled) (more (a_shorten refl refl (inr (inr refl)) refl seq_handled typed)
+        more (a_load (inl refl) refl tt seq_handled) (more (a_shorten refl refl (inr (inr refl)) refl seq_handled typed)
         (more (a_count (inr (inl refl)) refl) (more (a_copy (inl refl) (inr (inr refl)) refl)
         (more (a_test (inl refl) (inr (inl refl)) refl refl
         (covers_last (cut_at ty) (cut_low ty) cut_count (ended_pair ty) is_first is_last _ (λ j t is. is) refl
         (λ t is. set_true (set cut_count 5 true) 4 t (set_true cut_count 5 t is)) refl))
         (turns_fit (cut_at ty) (cut_low ty) cut_count (ended_pair ty) is_first is_last Ends el true (O.Element 2 6 0 4) (O.Element 3 6 0 4)
         (O.Forget 6 8 ∷ last) (λ e. refl) can
-        (an_element (inl refl) refl refl typed refl refl) (an_element (inr refl) refl refl typed refl refl)
+        (an_element (inl refl) refl refl tt typed refl refl) (an_element (inr refl) refl refl tt typed refl refl)
         (more (a_forget refl (inr (inr refl)) refl typed) (more (a_return refl refl) none)) cut_away)))))
 
 -- ---- labels stand once

@@ -131,30 +131,30 @@ module _ (table : List TypeDef) (z : Surroundings table) (live : Lives) (procs :
     a_line (a_base {hook = hook} {base = base} {o = owned} at_to at_from asked distinct may) b =
         base_line table z live procs fresh h own c began joined first ty level base_is own_small room_is chain pace steep fits routines b k
         (priced pace (O.Hook hook base 0 1)) (λ n. hook_price n) hook base owned at_to at_from asked distinct may
-    a_line (a_load {to = to} {at = j} {t = t} {o = owned} is there handles) b =
+    a_line (a_load {to = to} {at = j} {t = t} {o = owned} is there from handles) b =
         load_line table z live procs fresh h own c began joined first ty level base_is own_small b k (priced pace (O.Load to j)) (omega arith) to j t owned is
-        there handles
-    a_line (a_count {to = to} {of = of} {t = t} is holds) b =
+        there from handles
+    a_line (a_count {to = to} {of = of} {t = t} {o = owned} is holds) b =
         count_line table z live procs fresh h own c began joined first ty level base_is own_small b k (priced pace (O.Count to of)) (omega arith) to of t
-        is holds
+        owned is holds
     a_line (a_number {to = to} {n = n} is small) b =
         number_line table z live procs fresh h own c began joined first ty level base_is own_small b k (priced pace (O.Number to n)) (omega arith) to n is small
-    a_line (an_element {e = e} {to = to} {of = of} {at = j} {el = el} {o = owned} part holds there typed has begun) b =
+    a_line (an_element {e = e} {to = to} {of = of} {at = j} {el = el} {o = owned} part holds there from typed has begun) b =
         subst (λ o. S (O.Element to of j 4) (led e to owned el) k (does_by known (record { world = w; level = level; temps = temps }) (O.Element to of j 4)) w
         temps (St b (element_of to (of + 3) 4 (element_bytes table o) k))) (sym typed)
         (element_line table z live procs fresh h own c began joined first ty level base_is own_small b k (priced pace (O.Element to of j 4)) (omega arith) to of
-        j el owned part holds there typed has begun)
+        j el owned part holds there from typed has begun)
     a_line (a_member {e = e} {to = to} {at = j} {n = n} {el = el} {o = owned} part there typed few has begun) b =
         subst (λ o. S (O.Member to j 4 n) (led e to owned el) k (does_by known (record { world = w; level = level; temps = temps }) (O.Member to j 4 n)) w
         temps (St b (element_of to j 4 (element_bytes table o) k))) (sym typed)
         (member_line table z live procs fresh h own c began joined first ty level base_is own_small b k (priced pace (O.Member to j 4 n)) (omega arith) to j n
         el owned part there typed few has begun)
-    a_line (a_take {e = e} {to = to} {at = j} {of = of} {t = t} {el = el} is holds there typed) b =
-        subst (λ o. S (O.Take ty to j of) (handled e to true ty) k
+    a_line (a_take {e = e} {to = to} {at = j} {of = of} {t = t} {el = el} {o = owned} is holds there typed) b =
+        subst (λ o. S (O.Take ty to j of) (handled e to true true ty) k
         (does_by known (record { world = w; level = level; temps = temps }) (O.Take ty to j of)) w temps (St b (taken to j of (element_bytes table o) k)))
         (sym typed)
         (take_line table z live procs fresh h own c began joined first ty level base_is own_small room_is chain pace steep fits routines b k
-        (priced pace (O.Take ty to j of)) (λ n. omega arith) to j of t el is holds there typed)
+        (priced pace (O.Take ty to j of)) (λ n. omega arith) to j of t el owned is holds there typed)
     a_line (a_give_back {at = j} {of = of} {t = t} {other = other} holds there handles) b =
         give_back_line table z live procs fresh h own c began joined first ty level base_is own_small room_is chain pace steep fits routines b k
         (priced pace (O.GiveBack other j of)) (λ n. omega arith) j of t other holds there handles
@@ -216,10 +216,10 @@ module _ (table : List TypeDef) (z : Surroundings table) (live : Lives) (procs :
   no_label (a_return is begun) e name k = refl
   no_label (a_hook {hook = hook} {of = of} {to = to} {from = from} leads_to leads_from asked may) e name k = no_label_in hook of to from name k
   no_label (a_base {hook = hook} {base = base} at_to at_from asked distinct may) e name k = no_label_in hook base 0 1 name k
-  no_label (a_load is there handles) e name k = refl
+  no_label (a_load is there from handles) e name k = refl
   no_label (a_count is holds) e name k = refl
   no_label (a_number is small) e name k = refl
-  no_label (an_element part holds there typed has begun) e name k = refl
+  no_label (an_element part holds there from typed has begun) e name k = refl
   no_label (a_member part there typed few has begun) e name k = refl
   no_label (a_take is holds there typed) e name k = refl
   no_label (a_give_back holds there handles) e name k = refl
@@ -256,10 +256,10 @@ module _ (table : List TypeDef) (z : Surroundings table) (live : Lives) (procs :
   label_fit other (a_return is begun) e = absurd (none_some e)
   label_fit other (a_hook leads_to leads_from asked may) e = absurd (none_some e)
   label_fit other (a_base at_to at_from asked distinct may) e = absurd (none_some e)
-  label_fit other (a_load is there handles) e = absurd (none_some e)
+  label_fit other (a_load is there from handles) e = absurd (none_some e)
   label_fit other (a_count is holds) e = absurd (none_some e)
   label_fit other (a_number is small) e = absurd (none_some e)
-  label_fit other (an_element part holds there typed has begun) e = absurd (none_some e)
+  label_fit other (an_element part holds there from typed has begun) e = absurd (none_some e)
   label_fit other (a_member part there typed few has begun) e = absurd (none_some e)
   label_fit other (a_take is holds there typed) e = absurd (none_some e)
   label_fit other (a_give_back holds there handles) e = absurd (none_some e)

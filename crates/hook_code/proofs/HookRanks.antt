@@ -63,10 +63,10 @@ module _ (rank : ℕ → ℕ) (most : ℕ) (copy : rank COPY ≤ most) (release 
     line_most k (a_return is begun) h = omega (arith, h)
     line_most k (a_hook {hook = hook} {of = of} {to = to} {from = from} leads other asked can) h = hook_most hook of to from k can h
     line_most k (a_base {hook = hook} {base = base} is other asked distinct can) h = hook_most hook base 0 1 k can h
-    line_most k (a_load pair is handles) h = omega (arith, h)
+    line_most k (a_load pair is from handles) h = omega (arith, h)
     line_most k (a_count is has) h = omega (arith, h)
     line_most k (a_number is few) h = omega (arith, h)
-    line_most k (an_element part has is typed counts begun) h = omega (arith, h)
+    line_most k (an_element part has is from typed counts begun) h = omega (arith, h)
     line_most k (a_member part is typed few counts begun) h = omega (arith, h)
     line_most k (a_take pair has is typed) h = omega (arith, h, seq_new)
     line_most k (a_give_back has is handles) h = omega (arith, h, release)

@@ -1,54 +1,17 @@
 -- What the variables of a hook hold, by what is known of its temporaries.
 use Rattle.std.proofs.Common.{◌≡◌, ◌≢◌, ◌⊎◌, inl, inr, ℕ, ◌+◌, ◌%◌, ◌^◌, ◌<◌, ◌≤◌, Bool, true, false, List, length, Option, Some, None}
 use Rattle.std.proofs.Common.{refl, sym, ap, subst, ◌∙◌, arith}
-use Rattle.std.specs.Prelude.{nat_eq, ◌==◌, pos}
-use Rattle.std.proofs.lemmas.Bool.{cond-true, cond-false, eq-eqb, ne_eqb, false≢true, cases_eq}
+use Rattle.std.specs.Prelude.{pos}
+use Rattle.std.proofs.lemmas.Bool.{false≢true, cases_eq}
 use Rattle.nim_types.specs.declared.types.TypeDef.{TypeDef}
 use Rattle.nim_meaning.specs.Values.{Value, Number, InHand, Location, at_base}
 use Rattle.flat_code.specs.Scene.{Located, Temps, with_value, with_place}
-use Rattle.flat_code.specs.Scene as scene
 use Rattle.word_code.specs.Words.{Vars, put}
-use Rattle.hook_code.specs.Surroundings.{Hand, IsFull, Surroundings}
+use Rattle.hook_code.specs.Surroundings.{Hand, IsFull, Stays, Surroundings}
+pub use Rattle.hook_code.proofs.Variables.{put_here, put_there, put_word, set_here, set_there, got_here, got_there, none_some, same_some}
 use Rattle.hook_code.proofs.Env.{Env, set, IsPart, IsCount, IsPair, Covers, counted, turned, located, handled, under_way}
 
--- ---- variables, and temporaries
-
-pub put_here : (v : Vars) (to n : ℕ) → put v to n to ≡ Some (n % 2 ^ 32)
-put_here v to n = cond-true (to == to) (Some (n % 2 ^ 32)) (v to) (eq-eqb to to refl)
-
-pub put_there : (v : Vars) (to n u : ℕ) → u ≢ to → put v to n u ≡ v u
-put_there v to n u ne = cond-false (u == to) (Some (n % 2 ^ 32)) (v u) (ne_eqb u to ne)
-
-pub put_word : (v : Vars) (to n : ℕ) → n < 2 ^ 32 → put v to n to ≡ Some n
-put_word v to n small = put_here v to n ∙ (let e : n % 2 ^ 32 ≡ n = omega arith in ap Some e)
-
-module _ {A : Type 0} (held : ℕ → A) (t : ℕ) (o : A) where
-  pub set_here : set held t o t ≡ o
-  set_here = cond-true (nat_eq t t) o (held t) (eq-eqb t t refl)
-
-  pub set_there : (u : ℕ) → u ≢ t → set held t o u ≡ held u
-  set_there u ne = cond-false (nat_eq u t) o (held u) (ne_eqb u t ne)
-
-module _ {A : Type 0} (held : ℕ → Option A) (t : ℕ) (x : A) where
-  pub got_here : scene.put held t x t ≡ Some x
-  got_here = set_here held t (Some x)
-
-  pub got_there : (u : ℕ) → u ≢ t → scene.put held t x u ≡ held u
-  got_there u ne = set_there held t (Some x) u ne
-
-abbrev some_of : {A : Type 0} → A → Option A → A
-some_of none None = none
-some_of none (Some x) = x
-
-abbrev is_none : {A : Type 0} → Option A → Bool
-is_none None = true
-is_none (Some x) = false
-
-pub none_some : {A : Type 0} {x : A} → None ≡ Some x → ⊥
-none_some {x = x} e = false≢true (sym (ap is_none e))
-
-pub same_some : {A : Type 0} (x y : A) → Some x ≡ Some y → x ≡ y
-same_some x y e = ap (some_of x) e
+-- ---- variables
 
 -- variables that come between don't count
 abbrev pub AreKept : (old new : Vars) → Type 0
@@ -83,6 +46,15 @@ count_apart t (inr (inr e)) = record { low = omega (arith, e); high = omega (ari
 abbrev pub hand_length : Hand → ℕ
 hand_length h = length h
 
+-- what may not be put to a place stands where a hook works from
+abbrev pub IsTied : (own : Bool) → Temps → Value → Type 0
+IsTied true temps v = Unit {0}
+IsTied false temps v = (l : Location) × (temps.places 1 ≡ Some (Located l)) × Stays l v
+
+pub tied_as : (o : Bool) (temps now : Temps) (v : Value) → now.places 1 ≡ temps.places 1 → IsTied o temps v → IsTied o now v
+tied_as true temps now v same t = t
+tied_as false temps now v same t = (t.0, same ∙ t.1, t.2)
+
 module _ (table : List TypeDef) (z : Surroundings table) (h : Hand) (own : ℕ) where
   -- a variable has the address of a location of a type
   pub record AtPlace (d : z.Blocks) (temps : Temps) (vars : Vars) (j : ℕ) (x : Bool × ℕ) : Type 0 where
@@ -104,7 +76,7 @@ module _ (table : List TypeDef) (z : Surroundings table) (h : Hand) (own : ℕ) 
   IfFull true v = IsFull v
   IfFull false v = Unit {0}
 
-  pub record HasPair (d : z.Blocks) (temps : Temps) (vars : Vars) (t : ℕ) (full : Bool) (ty : ℕ) : Type 0 where
+  pub record HasPair (d : z.Blocks) (temps : Temps) (vars : Vars) (t : ℕ) (full o : Bool) (ty : ℕ) : Type 0 where
     pub is : IsPair t
     pub value : Value
     pub length : ℕ
@@ -112,8 +84,9 @@ module _ (table : List TypeDef) (z : Surroundings table) (h : Hand) (own : ℕ) 
     pub there : temps.values t ≡ Some value
     pub long : vars t ≡ Some length
     pub contents : vars (t + 3) ≡ Some place
-    pub handle : z.IsHandle d ty value length place
+    pub handle : z.IsHandle o d ty value length place
     pub sure : IfFull full value
+    pub tied : IsTied o temps value
 
   -- the next one of the loop's number has 32 bits
   pub record IsSmall (temps : Temps) : Type 0 where
@@ -130,7 +103,7 @@ module _ (table : List TypeDef) (z : Surroundings table) (h : Hand) (own : ℕ) 
   pub record Knows (d : z.Blocks) (e : Env) (temps : Temps) (vars : Vars) : Type 0 where
     pub at : (j : ℕ) (x : Bool × ℕ) → e.at j ≡ Some x → AtPlace d temps vars j x
     pub counts : (t : ℕ) → e.counts t ≡ true → HasCount temps vars t
-    pub has : (t : ℕ) (x : Bool × ℕ) → e.has t ≡ Some x → HasPair d temps vars t x.0 x.1
+    pub has : (t : ℕ) (x : Bool × (Bool × ℕ)) → e.has t ≡ Some x → HasPair d temps vars t x.0 x.1.0 x.1.1
     pub small : e.small ≡ true → IsSmall temps
     pub begun : (ty : ℕ) → e.begun ≡ Some ty → IsBegun e temps vars
 
@@ -164,6 +137,7 @@ module _ (table : List TypeDef) (z : Surroundings table) (h : Hand) (own : ℕ) 
         contents = kept (t + 3) (omega (arith, few)) ∙ x.contents;
         handle = x.handle;
         sure = x.sure;
+        tied = x.tied;
       };
       small = k.small;
       begun = λ ty is. let x = k.begun ty is in record { place = x.place; variable = kept 2 (omega arith) ∙ x.variable; none = x.none };
@@ -188,8 +162,9 @@ module _ (table : List TypeDef) (z : Surroundings table) (h : Hand) (own : ℕ) 
         there = x.there;
         long = x.long;
         contents = x.contents;
-        handle = z.handle_later d later x.value y.1 x.length x.place ahead x.handle;
+        handle = z.handle_later y.1.0 d later x.value y.1.1 x.length x.place ahead x.handle;
         sure = x.sure;
+        tied = x.tied;
       };
       small = k.small;
       begun = k.begun;
@@ -245,6 +220,7 @@ module _ (table : List TypeDef) (z : Surroundings table) (h : Hand) (own : ℕ) 
         contents = put_there old to n (t + 3) (λ f. omega (arith, f, low, few)) ∙ x.contents;
         handle = x.handle;
         sure = x.sure;
+        tied = tied_as y.1.0 temps (with_place to temps (Located l)) x.value (got_there temps.places to (Located l) 1 (λ f. omega (arith, f, few))) x.tied;
       };
       small = λ is. let x = k.small is in record { number = x.number; value = x.value; next = x.next };
       begun = λ t is. absurd (none_some (sym begun ∙ is));
@@ -312,6 +288,7 @@ module _ (table : List TypeDef) (z : Surroundings table) (h : Hand) (own : ℕ) 
         contents = put_there old to n (t + 3) (λ g. omega (arith, g, high, low)) ∙ x.contents;
         handle = x.handle;
         sure = x.sure;
+        tied = tied_as y.1.0 temps (with_value to temps (Number (pos n))) x.value refl x.tied;
       };
       small = λ f. absurd (false≢true f);
       begun = λ ty f. begun_kept to n (count_apart to is).low ty f (counted e to) refl (with_value to temps (Number (pos n))) refl;
@@ -353,6 +330,7 @@ module _ (table : List TypeDef) (z : Surroundings table) (h : Hand) (own : ℕ) 
         contents = put_there old 4 n (t + 3) (λ g. omega (arith, g, low)) ∙ x.contents;
         handle = x.handle;
         sure = x.sure;
+        tied = x.tied;
       };
       small = λ f. absurd (false≢true f);
       begun = λ ty f. begun_kept 4 n (omega arith) ty f (turned e 4) refl temps refl;
@@ -370,9 +348,9 @@ module _ (table : List TypeDef) (z : Surroundings table) (h : Hand) (own : ℕ) 
             }
 
     -- a handle
-    pub knows_pair : (to ty n p : ℕ) (full : Bool) (v : Value) → IsPair to → z.IsHandle d ty v (n % 2 ^ 32) (p % 2 ^ 32) → IfFull full v
-        → Knows d (handled e to full ty) (with_value to temps v) (put (put old to n) (to + 3) p)
-    knows_pair to ty n p full v is handle is_full = record {
+    pub knows_pair : (to ty n p : ℕ) (full o : Bool) (v : Value) → IsPair to → z.IsHandle o d ty v (n % 2 ^ 32) (p % 2 ^ 32) → IfFull full v → IsTied o temps v
+        → Knows d (handled e to full o ty) (with_value to temps v) (put (put old to n) (to + 3) p)
+    knows_pair to ty n p full o v is handle is_full is_tied = record {
       at = λ j t f. let x = k.at j t f in let few = x.few in record {
         few = x.few;
         location = x.location;
@@ -423,7 +401,7 @@ module _ (table : List TypeDef) (z : Surroundings table) (h : Hand) (own : ℕ) 
         both : (u : ℕ) → u ≢ to → u ≢ to + 3 → vars u ≡ old u
         both u ne other = put_there (put old to n) (to + 3) p u other ∙ put_there old to n u ne
 
-        here : HasPair d now vars to full ty
+        here : HasPair d now vars to full o ty
         here = record {
           is = is;
           value = v;
@@ -434,15 +412,18 @@ module _ (table : List TypeDef) (z : Surroundings table) (h : Hand) (own : ℕ) 
           contents = put_here (put old to n) (to + 3) p;
           handle = handle;
           sure = is_full;
+          tied = tied_as o temps now v refl is_tied;
         }
 
-        by_pair : (t : ℕ) (y : Bool × ℕ) → set e.has to (Some (full, ty)) t ≡ Some y → (t ≡ to) ⊎ (t ≢ to) → HasPair d now vars t y.0 y.1
+        by_pair : (t : ℕ) (y : Bool × (Bool × ℕ)) → set e.has to (Some (full, (o, ty))) t ≡ Some y → (t ≡ to) ⊎ (t ≢ to)
+            → HasPair d now vars t y.0 y.1.0 y.1.1
         by_pair t y f (inl same) =
-            let is_y : (full, ty) ≡ y = same_some (full, ty) y
-            (sym (set_here e.has to (Some (full, ty))) ∙ (ap (set e.has to (Some (full, ty))) (sym same) ∙ f)) in
-            subst (λ i. HasPair d now vars i y.0 y.1) (sym same) (subst (λ (s : Bool × ℕ). HasPair d now vars to s.0 s.1) is_y here)
+            let is_y : (full, (o, ty)) ≡ y = same_some (full, (o, ty)) y
+            (sym (set_here e.has to (Some (full, (o, ty)))) ∙ (ap (set e.has to (Some (full, (o, ty)))) (sym same) ∙ f)) in
+            subst (λ i. HasPair d now vars i y.0 y.1.0 y.1.1) (sym same)
+            (subst (λ (s : Bool × (Bool × ℕ)). HasPair d now vars to s.0 s.1.0 s.1.1) is_y here)
         by_pair t y f (inr ne) =
-            let x = k.has t y (sym (set_there e.has to (Some (full, ty)) t ne) ∙ f) in
+            let x = k.has t y (sym (set_there e.has to (Some (full, (o, ty))) t ne) ∙ f) in
             let few = pair_few t x.is in let a = few.0 in let b = few.1 in record {
               is = x.is;
               value = x.value;
@@ -453,6 +434,7 @@ module _ (table : List TypeDef) (z : Surroundings table) (h : Hand) (own : ℕ) 
               contents = both (t + 3) (λ g. omega (arith, g, a, high)) (λ g. ne (omega (arith, g))) ∙ x.contents;
               handle = x.handle;
               sure = x.sure;
+              tied = tied_as y.1.0 temps now x.value refl x.tied;
             }
 
     -- the value under way
@@ -477,6 +459,8 @@ module _ (table : List TypeDef) (z : Surroundings table) (h : Hand) (own : ℕ) 
         contents = put_there old 2 own (t + 3) (λ g. omega (arith, g, few)) ∙ x.contents;
         handle = x.handle;
         sure = x.sure;
+        tied = tied_as y.1.0 temps (with_place 2 temps (Located (at_base (InHand (z.before + hand_length h))))) x.value
+            (got_there temps.places 2 (Located (at_base (InHand (z.before + hand_length h)))) 1 (λ g. omega (arith, g))) x.tied;
       };
       small = λ f. let x = k.small f in record { number = x.number; value = x.value; next = x.next };
       begun = λ t f. record {

@@ -18,3 +18,4 @@ mod Ordered
 mod Promised
 mod Seen
 mod TextHooks
+mod Variables

@@ -34,12 +34,13 @@ use Rattle.hook_lifting.specs.declared.lifted.LiftedLine.TheVariants as O
 use Rattle.hook_lifting.specs.Lifting.{does_by}
 use Rattle.hook_code.specs.declared.numbers.TheConstants.{ADDRESS, ONE, OTHER}
 use Rattle.hook_code.specs.HookCode.{handle_got, handle_with, handle_put, element_of, part_at, bytes_at}
-use Rattle.hook_code.specs.Surroundings.{Hand, with_one, with_handle, element_address, IsHandled, IsRead, IsPut, Surroundings}
-use Rattle.hook_code.proofs.Env.{Env, IsPart, IsCount, IsPair, Holds, Covers, counted, turned as one_past, located, led, handled, under_way, over, part_type}
+use Rattle.hook_code.specs.Surroundings.{Hand, with_one, with_handle, element_address, Stays, StaysIf, IsHandled, IsRead, IsPut, Surroundings}
+use Rattle.hook_code.proofs.Env.{Env, IsPart, IsCount, IsPair, IsFrom, Holds, Covers, counted, turned as one_past, located, led, handled, under_way, over}
+use Rattle.hook_code.proofs.Env.{part_type}
 use Rattle.hook_code.proofs.Seen.{seen_full}
 use Rattle.hook_code.proofs.Known.{put_here, put_there, put_word, AreKept, kept_none, kept_between, Knows, AtPlace, HasCount, HasPair, IfFull, pair_few}
 use Rattle.hook_code.proofs.Known.{knows_kept, knows_later, knows_covered, knows_small, knows_over, knows_place, knows_count, knows_turned, knows_pair}
-use Rattle.hook_code.proofs.Known.{knows_begun}
+use Rattle.hook_code.proofs.Known.{IsTied, knows_begun, same_some}
 use Rattle.hook_code.proofs.Lines.{low_of, hand_of, got_runs, loaded, loaded_kept, loaded_there, loaded_between, stored_runs, Before, state, word_state}
 use Rattle.hook_code.proofs.Lines.{Reached}
 use Rattle.hook_code.proofs.Lines.{Outcome, IsLed, IsReturned, Led, led_by, worked, guarded}
@@ -156,11 +157,11 @@ module _ (table : List TypeDef) (z : Surroundings table) (live : Lives) (procs :
           (run_constant live procs cw b.memory k v b.given to n),
     )
 
-    pub count_line : May 1 → (to of t : ℕ) → IsCount to → Holds e of true t → S (counted e to) (does_it (O.Count to of)) (W.Copy to of ∷ k)
-    count_line may to of t is holds =
-        let p = b.knows.has of (true, t) holds in
-        let l = z.length_is d p.value t p.length p.place p.sure p.handle in
-        let s = z.handle_small d p.value t p.length p.place p.handle in
+    pub count_line : May 1 → (to of t : ℕ) (o : Bool) → IsCount to → Holds e of true o t → S (counted e to) (does_it (O.Count to of)) (W.Copy to of ∷ k)
+    count_line may to of t owned is holds =
+        let p = b.knows.has of (true, (owned, t)) holds in
+        let l = z.length_is owned d p.value t p.length p.place p.sure p.handle in
+        let s = z.handle_small owned d p.value t p.length p.place p.handle in
         subst (λ o. S (counted e to) (using o (λ u. gives x to (costs 1 (give (Number (pos (length_of u))))))) (W.Copy to of ∷ k)) (sym p.there)
         (subst (λ n. Out (counted e to) k most (Answers [] 1 (with_value to temps (Number (pos n))) w) (St b (W.Copy to of ∷ k))) (sym l) (
           refl,
@@ -388,10 +389,10 @@ module _ (table : List TypeDef) (z : Surroundings table) (live : Lives) (procs :
                   (z.to_member owned h d p.location p.address ty n q.number el typed less p.leads),
             )
 
-    pub element_line : May 3 → (to of at el : ℕ) (owned : Bool) → IsPart to → Holds e of true ty → e.at at ≡ Some (owned, ty) →
+    pub element_line : May 3 → (to of at el : ℕ) (owned : Bool) → IsPart to → Holds e of true owned ty → e.at at ≡ Some (owned, ty) → IsFrom owned at →
         slice_get table ty ≡ Some (D.Seq el) → e.counts 4 ≡ true
         → e.begun ≡ None → S (led e to owned el) (does_it (O.Element to of at 4)) (element_of to (of + 3) 4 (bytes_at table el) k)
-    element_line may to of at el owned part holds is typed has begun =
+    element_line may to of at el owned part holds is from typed has begun =
         subst (λ o. S (led e to owned el) (using o (λ u. using (temps.places at) (λ place. using_number temps 4 (λ i. go u (location_at temps place) i)))) code)
         (sym r.there)
         (subst (λ o. S (led e to owned el) (using o (λ place. using_number temps 4 (λ i. go r.value (location_at temps place) i))) code) (sym p.place)
@@ -407,8 +408,14 @@ module _ (table : List TypeDef) (z : Surroundings table) (live : Lives) (procs :
         q : HasCount table z h own temps v 4
         q = b.knows.counts 4 has
 
-        r : HasPair table z h own d temps v of true ty
-        r = b.knows.has of (true, ty) holds
+        r : HasPair table z h own d temps v of true owned ty
+        r = b.knows.has of (true, (owned, ty)) holds
+
+        stays_by : (o : Bool) → IsFrom o at → IsTied o temps r.value → StaysIf o p.location r.value
+        stays_by true f t = tt
+        stays_by false f t =
+            subst (λ l. Stays l r.value)
+            (ap (location_at temps) (same_some (Located t.0) (Located p.location) (sym t.1 ∙ (ap temps.places (sym f) ∙ p.place)))) t.2
 
         go : Value → Location → ℤ → Did
         go u a i = branch (inside i (length_of u)) (leads x to (Located a) (costs 1 (give (item_of u a (unsigned_abs i))))) scenes.Fails
@@ -421,13 +428,14 @@ module _ (table : List TypeDef) (z : Surroundings table) (live : Lives) (procs :
         on false e1 = subst (λ w. S (led e to owned el) (branch w leads_on scenes.Fails) code) (sym e1) tt
         on true e1 =
             let less = is_less q.number (length_of r.value) e1 in
-            let l = z.length_is d r.value ty r.length r.place r.sure r.handle in
-            let s = (z.handle_small d r.value ty r.length r.place r.handle).0 in
+            let l = z.length_is owned d r.value ty r.length r.place r.sure r.handle in
+            let s = (z.handle_small owned d r.value ty r.length r.place r.handle).0 in
             subst (λ w. S (led e to owned el) (branch w leads_on scenes.Fails) code) (sym e1) (
               refl,
               element_reached may to (of + 3) q.number (bytes_at table el) el owned r.place (item_of r.value p.location q.number) part begun r.contents
                   (λ f. let g = (pair_few of r.is).1 in omega (arith, f, g)) q (omega (arith, less, l, s))
-                  (z.to_element owned h d p.location r.value p.address ty r.length r.place q.number el typed r.sure r.handle less p.leads),
+                  (z.to_element owned h d p.location r.value p.address ty r.length r.place q.number el typed r.sure r.handle (stays_by owned from r.tied)
+                  less p.leads),
             )
 
     -- ---- handles
@@ -436,34 +444,34 @@ module _ (table : List TypeDef) (z : Surroundings table) (live : Lives) (procs :
     O_of f code done = Out f k most done (St b code)
 
     -- a handle is read into a pair
-    pair_read : (limit : ℕ) → 3 ≤ limit → (to at t : ℕ) (full : Bool) (l : Location) (a : ℕ) (u : Value) → IsPair to → at ≤ 3 → v at ≡ Some a
-        → (r : IsRead (λ n p. z.IsHandle d t u n p) b.memory a) → IfFull table z h own full u
-        → Reached table z live procs fresh h own c began joined (handled e to full t) (with_value to temps u) w k (St b (handle_got to at k)) limit
-    pair_read limit may to at t full l a u is few has r sure =
-        passes (handled e to full t) (with_value to temps u) refl (loaded live procs cw b.memory k v b.given to a r.length r.place)
-        (knows_kept table z h own d (handled e to full t) (with_value to temps u) (put (put v to r.length) (to + 3) r.place)
-        (knows_pair table z h own d e temps v b.knows to t r.length r.place full u is r.are sure)
+    pair_read : (limit : ℕ) → 3 ≤ limit → (to at t : ℕ) (full o : Bool) (l : Location) (a : ℕ) (u : Value) → IsPair to → at ≤ 3 → v at ≡ Some a
+        → (r : IsRead (λ n p. z.IsHandle o d t u n p) b.memory a) → IfFull table z h own full u → IsTied o temps u
+        → Reached table z live procs fresh h own c began joined (handled e to full o t) (with_value to temps u) w k (St b (handle_got to at k)) limit
+    pair_read limit may to at t full o l a u is few has r sure tied =
+        passes (handled e to full o t) (with_value to temps u) refl (loaded live procs cw b.memory k v b.given to a r.length r.place)
+        (knows_kept table z h own d (handled e to full o t) (with_value to temps u) (put (put v to r.length) (to + 3) r.place)
+        (knows_pair table z h own d e temps v b.knows to t r.length r.place full o u is r.are sure tied)
         (loaded live procs cw b.memory k v b.given to a r.length r.place) (loaded_kept live procs cw b.memory k v b.given to a r.length r.place)) 3 limit may
         (handle_got to at k) k
-        (got_runs live procs cw b.memory k v b.given (λ n p. z.IsHandle d t u n p) to at a (pair_few to is).0 few has r)
+        (got_runs live procs cw b.memory k v b.given (λ n p. z.IsHandle o d t u n p) to at a (pair_few to is).0 few has r)
 
-    pub load_line : May 3 → (to at t : ℕ) (owned : Bool) → IsPair to → e.at at ≡ Some (owned, t) → IsHandled (slice_get table t)
-        → S (handled e to true t) (does_it (O.Load to at)) (handle_got to at k)
-    load_line may to at t owned is there handles =
+    pub load_line : May 3 → (to at t : ℕ) (owned : Bool) → IsPair to → e.at at ≡ Some (owned, t) → IsFrom owned at → IsHandled (slice_get table t)
+        → S (handled e to true owned t) (does_it (O.Load to at)) (handle_got to at k)
+    load_line may to at t owned is there from handles =
         subst (λ o. S f (using o (λ place. gives x to (costs 1 (sees (location_at temps place) (λ world u. give u))))) code) (sym p.place)
         (worked table z live procs fresh h own c began joined f k (St b code) most 1 (perform (sees p.location (λ world u. give u) >>= put_it) w)
         (guarded table z live procs fresh h own c began joined f k (St b code) later (λ deed. deed >>= put_it) refl (is_seen w p.location)
         (give (load w p.location)) w
         (λ seen. (
           refl,
-          pair_read (most 1) may to at t true p.location p.address (load w p.location) is p.few p.variable
+          pair_read (most 1) may to at t true owned p.location p.address (load w p.location) is p.few p.variable
               (z.reads owned (low_of own e.begun) (own + LIST_BYTES) (hand_of h own e.begun) d w b.memory p.location p.address t b.here leads_now handles
               (and_parts _ _ seen).0)
-              (seen_full w p.location seen),
+              (seen_full w p.location seen) (tied_by owned leads_now from seen),
         ))))
       where
         f : Env
-        f = handled e to true t
+        f = handled e to true owned t
 
         code : List WordInstr
         code = handle_got to at k
@@ -473,6 +481,16 @@ module _ (table : List TypeDef) (z : Surroundings table) (live : Lives) (procs :
 
         leads_now : z.Leads owned (hand_of h own e.begun) d p.location p.address t
         leads_now = p.leads
+
+        tied_by : (o : Bool) → z.Leads o (hand_of h own e.begun) d p.location p.address t → IsFrom o at → is_seen w p.location ≡ true
+            → IsTied o temps (load w p.location)
+        tied_by true f is seen = tt
+        tied_by false f is seen = (
+          p.location,
+          ap temps.places (sym is) ∙ p.place,
+          z.stays (low_of own e.begun) (own + LIST_BYTES) (hand_of h own e.begun) d w b.memory p.location p.address t b.here f handles
+              (and_parts _ _ seen).0,
+        )
 
         put_it : Value → Deed Temps
         put_it u = give (with_value to temps u)
@@ -507,21 +525,21 @@ module _ (table : List TypeDef) (z : Surroundings table) (live : Lives) (procs :
 
     -- what stands at a location now, and how another handle comes there
     reads_now : (at t : ℕ) (p : At_hand at t) → IsHandled (slice_get table t) → is_there w p.location ≡ true
-        → IsRead (λ n q. z.IsHandle d t (load w p.location) n q) b.memory p.address
+        → IsRead (λ n q. z.IsHandle true d t (load w p.location) n q) b.memory p.address
     reads_now at t p handles there =
         z.reads true (low_of own e.begun) (own + LIST_BYTES) (hand_of h own e.begun) d w b.memory p.location p.address t b.here p.leads handles there
 
     abbrev Then_put : Value → Location → Memory → Type 0
     Then_put u l m = (d1 : z.Blocks) × z.Later d d1 × z.Here (low_of own e.begun) (own + LIST_BYTES) (hand_of h own e.begun) d1 (store w l u) m
 
-    puts_now : (at t : ℕ) (p : At_hand at t) → IsHandled (slice_get table t) → is_there w p.location ≡ true → (u : Value) (n q : ℕ) → z.IsHandle d t u n q
+    puts_now : (at t : ℕ) (p : At_hand at t) → IsHandled (slice_get table t) → is_there w p.location ≡ true → (u : Value) (n q : ℕ) → z.IsHandle true d t u n q
         → IsPut (Then_put u p.location) b.memory p.address n q
     puts_now at t p handles there u n q handle =
         z.puts (low_of own e.begun) (own + LIST_BYTES) (hand_of h own e.begun) d w b.memory p.location p.address t b.here p.leads handles there u n q handle
 
-    pub exchange_line : May 6 → (to at of t : ℕ) (full : Bool) → IsPair to → e.at at ≡ Some (true, t) → Holds e of full t → (of ≡ to → ⊥) →
+    pub exchange_line : May 6 → (to at of t : ℕ) (full : Bool) → IsPair to → e.at at ≡ Some (true, t) → Holds e of full true t → (of ≡ to → ⊥) →
         IsHandled (slice_get table t)
-        → S (handled e to true t) (does_it (O.Exchange to at of)) (handle_got to at (handle_put at of k))
+        → S (handled e to true true t) (does_it (O.Exchange to at of)) (handle_got to at (handle_put at of k))
     exchange_line may to at of t full is there holds away handles =
         subst (λ o. S f (using o (λ u. using (temps.places at) (λ place. go u (location_at temps place)))) code) (sym r.there)
         (subst (λ o. S f (using o (λ place. go r.value (location_at temps place))) code) (sym p.place)
@@ -534,7 +552,7 @@ module _ (table : List TypeDef) (z : Surroundings table) (live : Lives) (procs :
         (λ here. (refl, done seen here))))))
       where
         f : Env
-        f = handled e to true t
+        f = handled e to true true t
 
         code : List WordInstr
         code = handle_got to at (handle_put at of k)
@@ -545,8 +563,8 @@ module _ (table : List TypeDef) (z : Surroundings table) (live : Lives) (procs :
         l : Location
         l = p.location
 
-        r : HasPair table z h own d temps v of full t
-        r = b.knows.has of (full, t) holds
+        r : HasPair table z h own d temps v of full true t
+        r = b.knows.has of (full, (true, t)) holds
 
         go : Value → Location → Did
         go u a = gives x to (costs 1 (sees a (λ world old. sets a u >> give old)))
@@ -567,20 +585,20 @@ module _ (table : List TypeDef) (z : Surroundings table) (live : Lives) (procs :
             reached_with f (with_value to temps (load w l)) (store w l r.value) (with_handle b.memory p.address r.length r.place) after.0 after.1 after.2
             (put vars3 ADDRESS (p.address + 4))
             (knows_kept table z h own d f (with_value to temps (load w l)) (put (put v to old.length) (to + 3) old.place)
-            (knows_pair table z h own d e temps v b.knows to t old.length old.place true (load w l) is old.are (seen_full w l seen))
+            (knows_pair table z h own d e temps v b.knows to t old.length old.place true true (load w l) is old.are (seen_full w l seen) tt)
             (put vars3 ADDRESS (p.address + 4))
             (kept_between (put (put v to old.length) (to + 3) old.place) vars3 ADDRESS (p.address + 4) (omega arith)
             (loaded_kept live procs cw b.memory (handle_put at of k) v b.given to p.address old.length old.place))) 6 (most 1) may code
             (then_runs live procs
-            (got_runs live procs cw b.memory (handle_put at of k) v b.given (λ n q. z.IsHandle d t (load w l) n q) to at p.address low few p.variable old)
+            (got_runs live procs cw b.memory (handle_put at of k) v b.given (λ n q. z.IsHandle true d t (load w l) n q) to at p.address low few p.variable old)
             (stored_runs live procs cw b.memory k vars3 b.given at of of p.address r.length r.place few (λ g. omega (arith, g, high2))
             (same at (omega (arith, few)) (λ g. omega (arith, g, few, low)) (λ g. omega (arith, g, few, low)) ∙ p.variable)
             (same of (omega (arith, high2)) away (λ g. omega (arith, g, high2, low)) ∙ r.long)
             (same (of + 3) (omega (arith, high2)) (λ g. omega (arith, g, low2, high)) (λ g. away (omega (arith, g))) ∙ r.contents)
             (Then_put r.value l) put_there_now))
 
-    pub shorten_line : May 3 → (at of count t el : ℕ) → Holds e of true t → e.at at ≡ Some (true, t) → e.counts count ≡ true → IsHandled (slice_get table t)
-        → slice_get table t ≡ Some (D.Seq el)
+    pub shorten_line : May 3 → (at of count t el : ℕ) → Holds e of true true t → e.at at ≡ Some (true, t) → e.counts count ≡ true
+        → IsHandled (slice_get table t) → slice_get table t ≡ Some (D.Seq el)
         → S e (does_it (O.Shorten at of count)) (handle_with at count of k)
     shorten_line may at of count t el holds there has handles seq =
         subst (λ o. S e (using o (λ u. using (temps.places at) (λ place. using_number temps count (λ i. go u (location_at temps place) i)))) code) (sym r.there)
@@ -597,8 +615,8 @@ module _ (table : List TypeDef) (z : Surroundings table) (live : Lives) (procs :
         l : Location
         l = p.location
 
-        r : HasPair table z h own d temps v of true t
-        r = b.knows.has of (true, t) holds
+        r : HasPair table z h own d temps v of true true t
+        r = b.knows.has of (true, (true, t)) holds
 
         q : HasCount table z h own temps v count
         q = b.knows.counts count has
@@ -681,7 +699,7 @@ module _ (table : List TypeDef) (z : Surroundings table) (live : Lives) (procs :
           let v7 = put v6 ADDRESS (a + 4) in
           let second = z.puts (low_of own e.begun) (own + LIST_BYTES) (hand_of h own e.begun) middle.0 world_1 m1 p_from.location a2 t middle.2
           (z.leads_later true (hand_of h own e.begun) d middle.0 p_from.location a2 t middle.1 p_from.leads) handles there old_value (old.length % 2 ^ 32)
-          (old.place % 2 ^ 32) (z.handle_later d middle.0 old_value t (old.length % 2 ^ 32) (old.place % 2 ^ 32) middle.1 old.are) in
+          (old.place % 2 ^ 32) (z.handle_later true d middle.0 old_value t (old.length % 2 ^ 32) (old.place % 2 ^ 32) middle.1 old.are) in
           let last = second.then in
           let at3 : (j : ℕ) → j ≤ 3 → v6 j ≡ v j = λ j le. kept6 j (omega (arith, le)) ∙ kept3 j (omega (arith, le)) in
           reached_with e temps world_2 (with_handle m1 a2 (old.length % 2 ^ 32) (old.place % 2 ^ 32)) last.0
@@ -690,9 +708,9 @@ module _ (table : List TypeDef) (z : Surroundings table) (live : Lives) (procs :
           (kept_between v v7 ADDRESS (a2 + 4) (omega arith) (kept_between v v6 ADDRESS (a + 4) (omega arith)
           (λ u le. kept6 u le ∙ kept3 u le)))) 12 (most 1) may code_trade
           (then_runs live procs
-          (got_runs live procs cw b.memory k3 v b.given (λ n q. z.IsHandle d t old_value n q) ONE to a (omega arith) few p_to.variable old)
+          (got_runs live procs cw b.memory k3 v b.given (λ n q. z.IsHandle true d t old_value n q) ONE to a (omega arith) few p_to.variable old)
           (then_runs live procs
-          (got_runs live procs cw b.memory k2 v3 b.given (λ n q. z.IsHandle d t new_value n q) OTHER from a2 (omega arith) few2
+          (got_runs live procs cw b.memory k2 v3 b.given (λ n q. z.IsHandle true d t new_value n q) OTHER from a2 (omega arith) few2
           (kept3 from (omega (arith, few2)) ∙ p_from.variable) new)
           (then_runs live procs
           (stored_runs live procs cw b.memory k1 v6 b.given to OTHER OTHER a (new.length % 2 ^ 32) (new.place % 2 ^ 32) few (λ g. omega (arith, g))
@@ -759,10 +777,10 @@ module _ (table : List TypeDef) (z : Surroundings table) (live : Lives) (procs :
               (knows_begun table z h own d e temps v b.knows t none own_small) 1 (most 1) may (W.Place 2 0 ∷ k) (place_runs k),
         )
 
-    pub push_line : May 4 → (of t : ℕ) (full : Bool) → e.begun ≡ None → Holds e of full t → IsHandled (slice_get table t)
+    pub push_line : May 4 → (of t : ℕ) (full : Bool) → e.begun ≡ None → Holds e of full true t → IsHandled (slice_get table t)
         → S (under_way e t) (does_it (O.Push 2 of)) (W.Place 2 0 ∷ handle_put 2 of k)
     push_line may of t full none holds handles =
-        let r = b.knows.has of (full, t) holds in
+        let r = b.knows.has of (full, (true, t)) holds in
         let code = W.Place 2 0 ∷ handle_put 2 of k in
         let v1 = put v 2 own in
         let low = (pair_few of r.is).0 in let high = (pair_few of r.is).1 in
@@ -802,10 +820,10 @@ module _ (table : List TypeDef) (z : Surroundings table) (live : Lives) (procs :
           reached_with (over e to t) (with_value to temps (load w l)) (popped w) b.memory d (z.same d)
               (z.pops (own + LIST_BYTES) (own + LIST_BYTES) own t h d w b.memory here) vars3
               (knows_kept table z h own d (over e to t) (with_value to temps (load w l)) (put (put v to r.length) (to + 3) r.place)
-              (knows_over table z h own d (handled e to false t) (with_value to temps (load w l)) (put (put v to r.length) (to + 3) r.place)
-              (knows_pair table z h own d e temps v b.knows to t r.length r.place false (load w l) is r.are tt)) vars3
+              (knows_over table z h own d (handled e to false true t) (with_value to temps (load w l)) (put (put v to r.length) (to + 3) r.place)
+              (knows_pair table z h own d e temps v b.knows to t r.length r.place false true (load w l) is r.are tt tt)) vars3
               (loaded_kept live procs cw b.memory k v b.given to own r.length r.place)) 3 (most 1) may code
-              (got_runs live procs cw b.memory k v b.given (λ n q. z.IsHandle d t (load w l) n q) to 2 own (pair_few to is).0 (omega arith) k1.variable r),
+              (got_runs live procs cw b.memory k v b.given (λ n q. z.IsHandle true d t (load w l) n q) to 2 own (pair_few to is).0 (omega arith) k1.variable r),
         )
 
     pub return_line : May 1 → (t : ℕ) (owned : Bool) → e.at 0 ≡ Some (owned, t) → e.begun ≡ None → S e (does_it (O.Plain (L.Return None))) (W.Return 0 ∷ k)

@@ -293,7 +293,7 @@ module _ (table : List TypeDef) (z : Surroundings table) (live : Lives) (procs :
           let p = r.place % 2 ^ 32 in
           let small_p : p < 2 ^ 32 = omega arith in
           let runs = then_runs live procs
-          (got_runs live procs cw b1.memory k1 b1.vars no_words (λ n q. z.IsHandle d ty value n q) ONE 0 a (omega arith) (omega arith)
+          (got_runs live procs cw b1.memory k1 b1.vars no_words (λ n q. z.IsHandle true d ty value n q) ONE 0 a (omega arith) (omega arith)
           (called.calling.given.0) r)
           (run_argument live procs cw b1.memory l1 vars3 no_words 0 14 refl) in
           let given1 = put no_words 0 p in
@@ -306,7 +306,7 @@ module _ (table : List TypeDef) (z : Surroundings table) (live : Lives) (procs :
           end_line value
           ty (r.length % 2 ^ 32) p
           (record { calling = record { next = refl; given = (put_word no_words 0 p small_p, tt) }; top_is = refl; here = after.2 }) full is_own
-          (z.handle_later d after.0 value ty (r.length % 2 ^ 32) p after.1 r.are))
+          (z.handle_later true d after.0 value ty (r.length % 2 ^ 32) p after.1 r.are))
           (λ n u w1 back.
           back_reached table z live procs fresh h top c1 d (λ n. first_env Ends ty) first ty 0 refl small1 refl chain least_pace (le_refl least_pace) left1
           routines

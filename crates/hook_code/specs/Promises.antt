@@ -108,7 +108,7 @@ module _ (table : List TypeDef) (z : Surroundings table) (live : Lives) (procs :
   -- a handle's block is given back
   abbrev pub Releases : Type 0
   Releases = (low top : ℕ) (h : Hand) (d : z.Blocks) (w : World) (s : At_line) (to : ℕ) (rest : List WordInstr) (v : Value) (ty n p : ℕ)
-      → IsCalled RELEASE (p ∷ []) low top h d w s to rest → IsFull v → is_handle v ≡ true → z.IsHandle d ty v n p
+      → IsCalled RELEASE (p ∷ []) low top h d w s to rest → IsFull v → is_handle v ≡ true → z.IsHandle true d ty v n p
       → Comes low top h d AnyWord s to rest (λ n. release_most) (perform (frees (block_of v)) w)
 
   -- a sequence gets a block
@@ -116,7 +116,7 @@ module _ (table : List TypeDef) (z : Surroundings table) (live : Lives) (procs :
   Takes = (low top : ℕ) (h : Hand) (d : z.Blocks) (w : World) (s : At_line) (to : ℕ) (rest : List WordInstr) (l : Location) (a ty n of : ℕ)
       → IsCalled SEQ_NEW (a ∷ n ∷ bytes_at table of % 2 ^ 32 ∷ []) low top h d w s to rest → z.Leads true h d l a ty
       → slice_get table ty ≡ Some (D.Seq of) → n < 2 ^ 32
-      → Comes low top h d (λ v e word. IsFull v × z.IsHandle e ty v n (word % 2 ^ 32)) s to rest (λ n. take_most + 4 * n)
+      → Comes low top h d (λ v e word. IsFull v × z.IsHandle true e ty v n (word % 2 ^ 32)) s to rest (λ n. take_most + 4 * n)
       (perform (taken_for (element_of (form_in (known_in table) ty)) n l) w)
 
   -- a text is copied
@@ -163,7 +163,7 @@ module _ (table : List TypeDef) (z : Surroundings table) (live : Lives) (procs :
 
   abbrev pub Forgets : Type 0
   Forgets = (low top : ℕ) (h : Hand) (d : z.Blocks) (w : World) (m : Memory) (v : Value) (ty of n p k : ℕ) → z.Here low top h d w m
-      → slice_get table ty ≡ Some (D.Seq of) → IsFull v → z.IsHandle d ty v n p →
+      → slice_get table ty ≡ Some (D.Seq of) → IsFull v → z.IsHandle true d ty v n p →
       Stays low top h d m (perform (looks (λ world. refills (block_of v) (Elements (first_of k (elements_of world v))))) w)
 
   pub record Routines : Type 0 where

@@ -4,7 +4,7 @@ use Rattle.std.specs.Prelude.{Bool, ◌≡◌, ◌<◌, ◌≤◌, ℕ, ◌+◌,
 use Rattle.nim_types.specs.declared.types.TypeDef.{TypeDef}
 use Rattle.nim_types.specs.declared.types.TypeDef.TheVariants as D
 use Rattle.nim_types.specs.declared.types.TheConstants.{LIST_BYTES}
-use Rattle.nim_meaning.specs.Values.{Value, Vacant, Handle, InHand, Location, at_base, deeper, item_of, length_of, block_of, vacant}
+use Rattle.nim_meaning.specs.Values.{Value, Parts, Vacant, Handle, InHand, Made, Location, at_base, deeper, item_of, length_of, block_of, part, vacant}
 use Rattle.nim_meaning.specs.State.{World, load, store, pushed, popped, is_there}
 use Rattle.flat_code.specs.Scene.{known_in}
 use Rattle.flat_code.specs.Lines.{form_in}
@@ -44,6 +44,15 @@ plain_parts d = []
 abbrev pub IsFull : Value → Type 0
 IsFull Vacant = ⊥
 IsFull v = Unit {0}
+
+-- what has its elements beside one another is part of a value that nobody owns, which nothing changes
+abbrev pub Stays : Location → Value → Type 0
+Stays l (Parts all) = (root : Value) × (l.base ≡ Made root) × (part root l.path ≡ Parts all)
+Stays l v = Unit {0}
+
+abbrev pub StaysIf : (own : Bool) → Location → Value → Type 0
+StaysIf true l v = Unit {0}
+StaysIf false l v = Stays l v
 
 -- the word behind the one at an address
 abbrev pub behind : (address : ℕ) → ℕ
@@ -87,17 +96,17 @@ module _ (table : List TypeDef) where
     pub Here : (low top : ℕ) → Hand → Blocks → World → Memory → Type 0
     -- A location has an address, where a value of a type stands; a value may be put there if it is its own, and not one that something else has.
     pub Leads : (own : Bool) → Hand → Blocks → Location → (address ty : ℕ) → Type 0
-    -- two words are the handle of a text or a sequence
-    pub IsHandle : Blocks → (ty : ℕ) → Value → (length place : ℕ) → Type 0
+    -- two words are the handle of a text or a sequence: of one that a place may have as its own, or of any, also of one that nobody owns
+    pub IsHandle : (own : Bool) → Blocks → (ty : ℕ) → Value → (length place : ℕ) → Type 0
     -- ---- later
 
     pub leads_later : (o : Bool) (h : Hand) (d e : Blocks) (l : Location) (a ty : ℕ) → Later d e → Leads o h d l a ty → Leads o h e l a ty
     pub leads_read : (h : Hand) (d : Blocks) (l : Location) (a ty : ℕ) → Leads true h d l a ty → Leads false h d l a ty
     pub leads_more : (o : Bool) (h : Hand) (d : Blocks) (l : Location) (a ty b other : ℕ) → Leads o h d l a ty → Leads o (with_one h b other) d l a ty
-    pub handle_later : (d e : Blocks) (v : Value) (ty n p : ℕ) → Later d e → IsHandle d ty v n p → IsHandle e ty v n p
+    pub handle_later : (o : Bool) (d e : Blocks) (v : Value) (ty n p : ℕ) → Later d e → IsHandle o d ty v n p → IsHandle o e ty v n p
     -- addresses and handles are words
     pub leads_small : (o : Bool) (h : Hand) (d : Blocks) (l : Location) (a ty : ℕ) → Leads o h d l a ty → a < 2 ^ 32
-    pub handle_small : (d : Blocks) (v : Value) (ty n p : ℕ) → IsHandle d ty v n p → (n < 2 ^ 32) × (p < 2 ^ 32)
+    pub handle_small : (o : Bool) (d : Blocks) (v : Value) (ty n p : ℕ) → IsHandle o d ty v n p → (n < 2 ^ 32) × (p < 2 ^ 32)
     -- ---- parts
 
     pub to_part : (o : Bool) (h : Hand) (d : Blocks) (l : Location) (a ty i of : ℕ) → slice_get (plain_parts (slice_get table ty)) i ≡ Some of
@@ -105,18 +114,21 @@ module _ (table : List TypeDef) where
     pub to_member : (o : Bool) (h : Hand) (d : Blocks) (l : Location) (a ty n i of : ℕ) → slice_get table ty ≡ Some (D.Array n of) → i < n
         → Leads o h d l a ty → Leads o h d (deeper l i) (element_address a i (bytes_at table of)) of
     pub to_element : (o : Bool) (h : Hand) (d : Blocks) (l : Location) (v : Value) (a ty n p i of : ℕ) → slice_get table ty ≡ Some (D.Seq of) → IsFull v
-        → IsHandle d ty v n p → i < length_of v → Leads o h d l a ty → Leads o h d (item_of v l i) (element_address p i (bytes_at table of)) of
+        → IsHandle o d ty v n p → StaysIf o l v → i < length_of v → Leads o h d l a ty
+        → Leads o h d (item_of v l i) (element_address p i (bytes_at table of)) of
     pub to_base : (o : Bool) (h : Hand) (d : Blocks) (l : Location) (a ty base : ℕ) → IsDistinct (slice_get table ty) base → Leads o h d l a ty →
         Leads o h d l a base
     -- ---- handles
 
-    pub length_is : (d : Blocks) (v : Value) (ty n p : ℕ) → IsFull v → IsHandle d ty v n p → length_of v ≡ n
-    pub shortened : (d : Blocks) (v : Value) (ty of n p k : ℕ) → slice_get table ty ≡ Some (D.Seq of) → IsFull v → IsHandle d ty v n p → k ≤ length_of v
-        → IsHandle d ty (Handle k (block_of v)) k p
+    pub length_is : (o : Bool) (d : Blocks) (v : Value) (ty n p : ℕ) → IsFull v → IsHandle o d ty v n p → length_of v ≡ n
+    pub shortened : (d : Blocks) (v : Value) (ty of n p k : ℕ) → slice_get table ty ≡ Some (D.Seq of) → IsFull v → IsHandle true d ty v n p
+        → k ≤ length_of v → IsHandle true d ty (Handle k (block_of v)) k p
     pub reads : (o : Bool) (low top : ℕ) (h : Hand) (d : Blocks) (w : World) (m : Memory) (l : Location) (a ty : ℕ) → Here low top h d w m → Leads o h d l a ty
-        → IsHandled (slice_get table ty) → is_there w l ≡ true → IsRead (λ n p. IsHandle d ty (load w l) n p) m a
+        → IsHandled (slice_get table ty) → is_there w l ≡ true → IsRead (λ n p. IsHandle o d ty (load w l) n p) m a
+    pub stays : (low top : ℕ) (h : Hand) (d : Blocks) (w : World) (m : Memory) (l : Location) (a ty : ℕ) → Here low top h d w m → Leads false h d l a ty
+        → IsHandled (slice_get table ty) → is_there w l ≡ true → Stays l (load w l)
     pub puts : (low top : ℕ) (h : Hand) (d : Blocks) (w : World) (m : Memory) (l : Location) (a ty : ℕ) → Here low top h d w m → Leads true h d l a ty
-        → IsHandled (slice_get table ty) → is_there w l ≡ true → (v : Value) (n p : ℕ) → IsHandle d ty v n p
+        → IsHandled (slice_get table ty) → is_there w l ≡ true → (v : Value) (n p : ℕ) → IsHandle true d ty v n p
         → IsPut (λ other. (e : Blocks) × Later d e × Here low top h e (store w l v) other) m a n p
     pub empties : (low top : ℕ) (h : Hand) (d : Blocks) (w : World) (m : Memory) (l : Location) (a ty : ℕ) → Here low top h d w m → Leads true h d l a ty
         → IsHandled (slice_get table ty) → is_there w l ≡ true → (e : Blocks) × Later d e × Here low top h e (store w l Vacant) m
@@ -129,7 +141,7 @@ module _ (table : List TypeDef) where
     pub begins : (low top : ℕ) (h : Hand) (d : Blocks) (w : World) (m : Memory) (ty : ℕ) → Here low top h d w m → IsHandled (slice_get table ty)
         → low + LIST_BYTES ≤ top → Here (low + LIST_BYTES) top (with_one h low ty) d (pushed w (vacant (form_in (known_in table) ty))) m
     pub pushes : (low top : ℕ) (h : Hand) (d : Blocks) (w : World) (m : Memory) (ty : ℕ) → Here low top h d w m → IsHandled (slice_get table ty)
-        → low + LIST_BYTES ≤ top → (v : Value) (n p : ℕ) → IsHandle d ty v n p
+        → low + LIST_BYTES ≤ top → (v : Value) (n p : ℕ) → IsHandle true d ty v n p
         → IsPut (λ other. Here (low + LIST_BYTES) top (with_one h low ty) d (pushed w v) other) m low n p
     pub pops : (high top low ty : ℕ) (h : Hand) (d : Blocks) (w : World) (m : Memory) → Here high top (with_one h low ty) d w m
         → Here low top h d (popped w) m

@@ -1,6 +1,6 @@
 -- Programs that are built whole. Left out of them are refs, exceptions, objects with hooks of their own, calls with types for type parameters, and
--- what a ref or such an object is in: a value of that type, a place, an operand. So are `readLine(stdin)`, a constant of a type with texts or sequences in
--- it, but for one text, and the message of an exception. Of these the meaning, which is total, says nothing (`from_heap`, `from_exceptions`).
+-- what a ref or such an object is in: a value of that type, a place, an operand. So are `readLine(stdin)` and the message of an exception. Of these the
+-- meaning, which is total, says nothing (`from_heap`, `from_exceptions`).
 use Rattle.std.specs.Prelude.{◌≡◌, ℕ, Bool, true, false, not, ◌||◌, nat_lt, List, [], ◌∷◌, ◌++◌, map, Option, Some, None, option_map}
 use Rattle.arc_base.specs.declared.place.Place.{Place}
 use Rattle.nim_types.specs.Types as type
@@ -13,8 +13,7 @@ use Rattle.nim_program.specs.Program.{Element, Deref, Args, NoArg, ByValue, ByPa
 use Rattle.nim_program.specs.Program.{Stmts, Empty, Then, Declare, Defer, Blocks, Otherwise, Block, Param, Body, Proc, Program}
 use Rattle.nim_program.specs.Program.{types_in, node_at, node_in}
 use Rattle.nim_program.specs.Folds.{first_some, if_declared, loop_places}
-use Rattle.nim_program.specs.Program.{Literal, Characters, type_at}
-use Rattle.nim_meaning.specs.Here.{gives_hooked}
+use Rattle.nim_program.specs.Program.{type_at}
 use Rattle.nim_meaning.specs.Unbuilt.{is_unbuilt, gives_unbuilt, any_unbuilt}
 
 -- ---- the table, by what is built
@@ -29,15 +28,10 @@ is_built O.Destroy facts of = false
 is_built O.Blank facts of = false
 is_built _ facts of = true
 
--- one text, or nothing in which texts or sequences could stand
-abbrev pub is_literal_built : Facts → Option Ty → Literal → Bool
-is_literal_built facts ty (Characters characters) = true
-is_literal_built facts ty literal = not (gives_hooked facts ty)
-
 abbrev pub is_act_built : Act → Facts → Option Ty → Args → Bool
 is_act_built (Doing operation) facts ty operands = is_built operation facts (types_in operands)
 is_act_built (Building fields) facts ty operands = true
-is_act_built (Giving literal) facts ty operands = is_literal_built facts ty literal
+is_act_built (Giving literal) facts ty operands = true
 is_act_built (Calling proc []) facts ty operands = true
 is_act_built (Calling proc (first ∷ types)) facts ty operands = false
 

@@ -150,9 +150,12 @@ owned O.NewSequence facts ty of xs otherwise =
 owned O.ReadLineInto facts ty of xs otherwise = looks λ world. line_into (location xs 0) (bytes_left world)
 owned O.Assign facts ty of xs otherwise =
     unless_gone (may_change (location xs 0).base) (assigns (form_for facts (operand_type of 0)) (location xs 0) (operand xs 1))
-owned O.Add facts ty of xs otherwise = added (element_of (form_for facts (operand_type of 0))) (value xs 1) (location xs 0) >> give nothing
+owned O.Add facts ty of xs otherwise =
+    unless_gone (may_change (location xs 0).base) (added (element_of (form_for facts (operand_type of 0))) (value xs 1) (location xs 0) >> give nothing)
 owned O.Append facts ty of xs otherwise = looks λ world. appended (shown facts world (operand_type of 1) (operand xs 1)) (location xs 0) >> give nothing
-owned O.SetLength facts ty of xs otherwise = counted (number xs 1) (λ n. length_to (form_for facts (operand_type of 0)) n (location xs 0))
+owned O.SetLength facts ty of xs otherwise =
+    unless_gone (may_change (location xs 0).base) (counted (number xs 1) (λ n. length_to (form_for facts (operand_type of 0)) n (location xs 0)))
 owned O.Pop facts ty of xs otherwise =
-    looks λ world. shortened (element_of (form_for facts (operand_type of 0))) (length_of (load world (location xs 0))) (location xs 0) world
+    unless_gone (may_change (location xs 0).base) (looks λ world.
+    shortened (element_of (form_for facts (operand_type of 0))) (length_of (load world (location xs 0))) (location xs 0) world)
 owned operation facts ty of xs otherwise = otherwise

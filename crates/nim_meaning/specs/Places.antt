@@ -5,8 +5,8 @@ use Rattle.nim_program.specs.Traps.{IndexOutOfBounds, NilDereference, LengthChan
 use Rattle.nim_program.specs.Ints.{inside}
 use Rattle.nim_program.specs.declared.operation.Use.{Use}
 use Rattle.nim_program.specs.declared.operation.Use.TheVariants.{Owned, Given, Lent, Looked}
-use Rattle.nim_types.specs.Forms.{Form}
-use Rattle.nim_meaning.specs.Values.{Value, Fixed, Ref, nothing, length_of, bytes, Base, Standing, Waiting, InBlock, Made, Location, at_base}
+use Rattle.nim_types.specs.Forms.{Form, block, wrapped}
+use Rattle.nim_meaning.specs.Values.{Value, Fixed, Ref, nothing, length_of, bytes, Base, Standing, Waiting, InBlock, Made, Location, at_base, blank}
 pub use Rattle.nim_meaning.specs.Values.{item_of}
 use Rattle.nim_meaning.specs.Values.{deeper, nowhere, through}
 use Rattle.nim_meaning.specs.State.{World, slot_at, temporary_at, load}
@@ -106,9 +106,18 @@ abbrev pub kept_if : (hooked : Bool) → Destination → Value → Deed Value
 kept_if false to v = give v
 kept_if true to v = kept to v
 
--- what an operation looks at is read as it is; all else is a copy
+-- What an operation looks at: a text, as it is. Nobody looks into another value with blocks that isn't at a place, and a blank one stands for it.
+abbrev pub looked_as : Form → Value → Value
+looked_as block v = v
+looked_as (wrapped f) v = looked_as f v
+looked_as f v = blank f
+
+abbrev pub looked : Form → Location → Deed Value
+looked f location = takes location (λ world v. costs (bytes v) (give (looked_as f v)))
+
+-- all else is a copy
 abbrev pub copied_for : Use → Form → Destination → Location → Deed Value
-copied_for Looked f to location = fetched location
+copied_for Looked f to location = looked f location
 copied_for how f to location = copied f location >>= kept to
 
 -- The value of a path that is read, as its use asks. One with hooks is copied; moves and borrows, which the plan may say of the site, come later.

@@ -1,5 +1,5 @@
 -- A summary says whether a type has few levels.
-use Rattle.std.proofs.Common.{◌≡◌, ◌≤◌, ℕ, suc, min, Bool, true, false, List, [], ◌∷◌, map, refl, sym, ap, ap₂, ◌∙◌, arith, inl, inr}
+use Rattle.std.proofs.Common.{◌≡◌, ℕ, Bool, true, false, List, [], ◌∷◌, map, refl, sym, ap₂, ◌∙◌, arith, inl, inr}
 use Rattle.std.specs.Prelude.{nat_le}
 use Rattle.std.proofs.lemmas.Bool.{cases_Bool, leb-true, le-leb, both_ways}
 use Rattle.nim_types.specs.declared.types.TypeDef.{TypeDef}

@@ -1,11 +1,11 @@
 -- Programs at the limits. No public contract but that of examples speaks of it.
-use Rattle.std.specs.Prelude.{ℕ, suc, zero, false, List, [], ◌∷◌, Some, None}
+use Rattle.std.specs.Prelude.{ℕ, suc, zero, pos, false, List, [], ◌∷◌, Some, None}
 use Rattle.arc_base.specs.declared.place.Place.{Place}
 use Rattle.nim_types.specs.Types.{Ty, int, text, array, tuple, enum, Key, members, types, no_types}
 use Rattle.nim_program.specs.declared.expr.Node.{Node}
 use Rattle.nim_program.specs.declared.operation.Operation.TheVariants as O
 use Rattle.nim_program.specs.Program.{Characters, Doing, Giving, Expr, Apply, Args, NoArg, ByValue, Declared, Stmts, Empty, Then, Declare, Do, Program}
-use Rattle.nim_program.specs.Program.{Exactly, ByLabels, Select, Otherwise, Block}
+use Rattle.nim_program.specs.Program.{Exactly, ByLabels, Select, Otherwise, Block, Literal, Number, PartsOf, ALiteral, NoLiteral, Read, Fresh, Element}
 
 -- somewhere in the main module
 abbrev pub second_line : Place
@@ -76,6 +76,16 @@ repeating = record (starting [] saying) {
 abbrev pub labelled : Program
 labelled = starting [] (Then (Select (at 0) (ByLabels ((Exactly (97 ∷ []) ∷ Exactly (98 ∷ []) ∷ []) ∷ [])) (said 1 (97 ∷ []) NoArg)
     (Block (Then (Do (Apply (at 2) None (Doing O.Echo) (said 3 (97 ∷ []) NoArg))) Empty) (Otherwise Empty))) Empty)
+
+-- const both = ["a", "b"]
+-- echo both[1]
+abbrev both : Literal
+both = PartsOf (ALiteral (Characters (97 ∷ [])) (ALiteral (Characters (98 ∷ [])) NoLiteral))
+
+abbrev pub linked : Program
+linked = starting [] (Then (Do (Apply (at 0) None (Doing O.Echo)
+    (ByValue (Read (Element (at 1) text (Fresh (Apply (at 2) (Some (array 2 text)) (Giving both) NoArg))
+    (Apply (at 3) (Some int) (Giving (Number (pos 1))) NoArg) (Some (pos 1)))) NoArg))) Empty)
 
 -- type Side = enum a, north
 -- var b: int

@@ -1,8 +1,8 @@
--- What is known of types beside what they are, by the table: whether their values have code, and hooks, and how many levels they have, as far
--- as it matters. It serves proofs alone: no public contract speaks of it.
+-- What is known of types beside what they are, by the table: whether their values have code, and how many levels they have, as far as it matters.
+-- It serves proofs alone: no public contract speaks of it.
 use Rattle.std.specs.Prelude.{◌≡◌, ◌<◌, ◌||◌, ℕ, suc, min, max, nat_le, Bool, true, false, List, map, length, Option, Some, None, slice_get}
 use Rattle.nim_types.specs.Types.{Ty, Facts}
-use Rattle.nim_types.specs.Forms.{Form, Forms, hooked, hooked_any, levels, most_levels, form_in, forms_in, form_within, form_of}
+use Rattle.nim_types.specs.Forms.{Form, Forms, levels, most_levels, form_in, forms_in, form_within, form_of}
 use Rattle.nim_types.specs.declared.types.TypeDef.{TypeDef}
 use Rattle.nim_meaning.specs.Unbuilt.{has_unbuilt, has_unbuilt_any}
 use Rattle.nim_types.specs.Table.{type_at, types_at, types_in, facts_in}
@@ -13,17 +13,17 @@ abbrev pub capped : ℕ → ℕ
 capped n = min n (suc MOST_LEVELS)
 
 abbrev pub summary_of : Form → Summary
-summary_of f = record { unbuilt = has_unbuilt f; hooked = hooked f; levels = capped (levels f) }
+summary_of f = record { unbuilt = has_unbuilt f; levels = capped (levels f) }
 
 abbrev pub summaries_of : Forms → Summary
-summaries_of fs = record { unbuilt = has_unbuilt_any fs; hooked = hooked_any fs; levels = capped (most_levels fs) }
+summaries_of fs = record { unbuilt = has_unbuilt_any fs; levels = capped (most_levels fs) }
 
 abbrev pub with_more : Summary → Summary → Summary
-with_more a b = record { unbuilt = a.unbuilt || b.unbuilt; hooked = a.hooked || b.hooked; levels = capped (max a.levels b.levels) }
+with_more a b = record { unbuilt = a.unbuilt || b.unbuilt; levels = capped (max a.levels b.levels) }
 
 -- one level above
-abbrev pub above : (unbuilt hooked : Bool) → (levels : ℕ) → Summary
-above unbuilt hooked levels = record { unbuilt = unbuilt; hooked = hooked; levels = capped (suc levels) }
+abbrev pub above : (unbuilt : Bool) → (levels : ℕ) → Summary
+above unbuilt levels = record { unbuilt = unbuilt; levels = capped (suc levels) }
 
 -- of types by their numbers, so many declared types looked through
 abbrev pub form_at : ℕ → List TypeDef → ℕ → Form
@@ -55,7 +55,7 @@ is_shallow facts ty = nat_le (levels (form_of facts ty)) MOST_LEVELS
 -- what isn't listed is as an int
 abbrev pub summary_or : Option Summary → Summary
 summary_or (Some s) = s
-summary_or None = record { unbuilt = false; hooked = false; levels = 1 }
+summary_or None = record { unbuilt = false; levels = 1 }
 
 -- the types below a number, with so many declared types inside one another looked through
 abbrev pub AreKnown : ℕ → List TypeDef → List Summary → (bound : ℕ) → Type 0

@@ -9,8 +9,8 @@ ghost use Rattle.nim_program.specs.Program.{NoArg, Stmts};
 ghost use Rattle.nim_program.specs.View.{operand_before, if_value, stmt_before, stmts_of};
 ghost use Rattle.nim_program.specs.View.{branch_conditions, branch_blocks, case_blocks};
 ghost use Rattle.nim_program.specs.View.{handlers_of, body_of, proc_of, program_under};
-ghost use Rattle.program_limits.specs.Data.{texts_size, program_texts};
-ghost use Rattle.program_limits.specs.Meeting.{Met, Before, before, own_before, body_before};
+ghost use Rattle.program_limits.specs.Data.{constants_counted};
+ghost use Rattle.program_limits.specs.Meeting.{Met, Found, Before, before, own_before, body_before};
 
 use crate::label_texts::of_branch_labels;
 use crate::texts::{Texts, all_size, no_texts, of_expr, of_operand, of_operands, of_path};
@@ -20,7 +20,7 @@ use std::alloc::Global;
 
 // Those of a value, where there is one.
 fn of_value(alloc: Global, texts: &mut Texts, value: &Option<Expr>)
-    ensures { (ts : List Ty) (met : List (List ℕ)) → Met texts.old met
+    ensures { (ts : List Ty) (met : Found) → Met texts.old met
         → Met texts.new (totals before own_before (if_value ts value.now) met) }
 {
     match value {
@@ -31,7 +31,7 @@ fn of_value(alloc: Global, texts: &mut Texts, value: &Option<Expr>)
 
 // Those of a selector before blocks.
 fn of_selector(alloc: Global, texts: &mut Texts, operand: &Operand)
-    ensures { (ts : List Ty) (blocks : List Before) (met : List (List ℕ))
+    ensures { (ts : List Ty) (blocks : List Before) (met : Found)
         → Met texts.old (together before blocks met)
         → Met texts.new (in_turn before (each before own_before
         (operand_before ts operand.now NoArg)) blocks met) }
@@ -44,7 +44,7 @@ fn of_selector(alloc: Global, texts: &mut Texts, operand: &Operand)
 
 #[cycle(stmts)]
 fn of_block(alloc: Global, texts: &mut Texts, block: &Vec<Stmt>)
-    ensures { (ts : List Ty) (met : List (List ℕ)) → Met texts.old met
+    ensures { (ts : List Ty) (met : Found) → Met texts.old met
         → Met texts.new (total_of before own_before (stmts_of ts block.now.items) met) }
 {
     let mut i = block.len();
@@ -57,7 +57,7 @@ fn of_block(alloc: Global, texts: &mut Texts, block: &Vec<Stmt>)
 // Those of a statement before the rest of its block.
 #[cycle(stmts)]
 fn of_stmt(alloc: Global, texts: &mut Texts, stmt: &Stmt)
-    ensures { (ts : List Ty) (rest : Stmts) (met : List (List ℕ))
+    ensures { (ts : List Ty) (rest : Stmts) (met : Found)
         → Met texts.old (total_of before own_before rest met)
         → Met texts.new (total_of before own_before (stmt_before ts stmt.now rest) met) }
 {
@@ -108,7 +108,7 @@ fn of_stmt(alloc: Global, texts: &mut Texts, stmt: &Stmt)
 // Those of branches before the block for all else.
 #[cycle(stmts)]
 fn of_branches(alloc: Global, texts: &mut Texts, branches: &Vec<Branch>)
-    ensures { (ts : List Ty) (last : Stmts) (met : List (List ℕ))
+    ensures { (ts : List Ty) (last : Stmts) (met : Found)
         → Met texts.old (total_of before own_before last met)
         → Met texts.new (in_turn before
         (each before own_before (branch_conditions ts branches.now.items))
@@ -125,7 +125,7 @@ fn of_branches(alloc: Global, texts: &mut Texts, branches: &Vec<Branch>)
 
 #[cycle(stmts)]
 fn of_case_branches(alloc: Global, texts: &mut Texts, branches: &Vec<CaseBranch>)
-    ensures { (ts : List Ty) (last : Stmts) (met : List (List ℕ))
+    ensures { (ts : List Ty) (last : Stmts) (met : Found)
         → Met texts.old (total_of before own_before last met)
         → Met texts.new (together before
         (each_block before own_before (case_blocks ts branches.now.items last)) met) }
@@ -139,7 +139,7 @@ fn of_case_branches(alloc: Global, texts: &mut Texts, branches: &Vec<CaseBranch>
 
 #[cycle(stmts)]
 fn of_handlers(alloc: Global, texts: &mut Texts, handlers: &Vec<Handler>)
-    ensures { (ts : List Ty) (met : List (List ℕ)) → Met texts.old met
+    ensures { (ts : List Ty) (met : Found) → Met texts.old met
         → Met texts.new (total_of_handlers before own_before
         (handlers_of ts handlers.now.items) met) }
 {
@@ -153,7 +153,7 @@ fn of_handlers(alloc: Global, texts: &mut Texts, handlers: &Vec<Handler>)
 // ---- procedures
 
 fn of_body(alloc: Global, texts: &mut Texts, body: &Option<Body>)
-    ensures { (ts : List Ty) (met : List (List ℕ)) → Met texts.old met
+    ensures { (ts : List Ty) (met : Found) → Met texts.old met
         → Met texts.new (if_body before body_before
         (option_map (body_of ts) body.now) met) }
 {
@@ -164,7 +164,7 @@ fn of_body(alloc: Global, texts: &mut Texts, body: &Option<Body>)
 }
 
 fn of_procs(alloc: Global, texts: &mut Texts, procs: &Vec<Proc>)
-    ensures { (ts : List Ty) (met : List (List ℕ)) → Met texts.old met
+    ensures { (ts : List Ty) (met : Found) → Met texts.old met
         → Met texts.new (in_procs before body_before
         (map (proc_of ts) procs.now.items) met) }
 {
@@ -175,10 +175,11 @@ fn of_procs(alloc: Global, texts: &mut Texts, procs: &Vec<Proc>)
     }
 }
 
-/// The bytes of the distinct texts of a program, as far as they matter.
+/// The bytes of the distinct texts of a program, and of its constants with texts or sequences inside,
+/// as far as they matter.
 pub fn texts_size(alloc: Global, program: &Program) -> Result<u32, Memory>
-    ensures { IfOk result (λ size. size ≡ capped MOST_DATA (texts_size (program_texts
-        (program_under (types_in program.now.types) (facts_in program.now.types) program.now)))) }
+    ensures { IfOk result (λ size. size ≡ capped MOST_DATA (constants_counted
+        (program_under (types_in program.now.types) (facts_in program.now.types) program.now))) }
 {
     let mut texts = no_texts(alloc);
     of_block(alloc, &mut texts, &program.start.stmts);

@@ -1,14 +1,14 @@
 // The texts of labels, which a selector is compared with, in the same way.
 ghost use Rattle.std.specs.Prelude.{ℕ, List, map};
 ghost use Rattle.nim_program.specs.View.{label_of, pick_labels, branch_labels};
-ghost use Rattle.program_limits.specs.Meeting.{Met, label_before, branch_before, labels_before};
+ghost use Rattle.program_limits.specs.Meeting.{Met, Found, label_before, branch_before, labels_before};
 
 use crate::texts::{Texts, keep};
 use nim_program::{CaseBranch, Label, Pick};
 use std::alloc::Global;
 
 fn of_label(alloc: Global, texts: &mut Texts, label: &Label)
-    ensures { (met : List (List ℕ)) → Met texts.old met
+    ensures { (met : Found) → Met texts.old met
         → Met texts.new (label_before (label_of label.now) met) }
 {
     match label {
@@ -19,7 +19,7 @@ fn of_label(alloc: Global, texts: &mut Texts, label: &Label)
 
 // Those of one branch.
 fn of_labels(alloc: Global, texts: &mut Texts, labels: &[Label])
-    ensures { (met : List (List ℕ)) → Met texts.old met
+    ensures { (met : Found) → Met texts.old met
         → Met texts.new (branch_before (map label_of labels.now) met) }
 {
     let mut i = labels.len();
@@ -31,7 +31,7 @@ fn of_labels(alloc: Global, texts: &mut Texts, labels: &[Label])
 
 /// Those of the branches of an expression.
 pub fn of_pick_labels(alloc: Global, texts: &mut Texts, picks: &Vec<Pick>)
-    ensures { (met : List (List ℕ)) → Met texts.old met
+    ensures { (met : Found) → Met texts.old met
         → Met texts.new (labels_before (pick_labels picks.now.items) met) }
 {
     let mut i = picks.len();
@@ -43,7 +43,7 @@ pub fn of_pick_labels(alloc: Global, texts: &mut Texts, picks: &Vec<Pick>)
 
 /// Those of the branches of a statement.
 pub fn of_branch_labels(alloc: Global, texts: &mut Texts, branches: &Vec<CaseBranch>)
-    ensures { (met : List (List ℕ)) → Met texts.old met
+    ensures { (met : Found) → Met texts.old met
         → Met texts.new (labels_before (branch_labels branches.now.items) met) }
 {
     let mut i = branches.len();

@@ -5,20 +5,19 @@ ghost use Rattle.nim_types.specs.Table.{type_at, meant};
 ghost use Rattle.nim_program.specs.Program.{Args, Calling, Chooser, Choose, NoArg, ByValue};
 ghost use Rattle.nim_program.specs.Program.{types_in};
 ghost use Rattle.nim_program.specs.declared.expr.Node.{Node};
-ghost use Rattle.nim_program.specs.View.{expr_of, path_of, operands_of, operand_before, literal_of};
+ghost use Rattle.nim_program.specs.View.{expr_of, path_of, operands_of, operand_before};
 ghost use Rattle.nim_program.specs.View.{choices_of, picks_of, if_value, if_type};
 ghost use Rattle.nim_meaning.specs.Unbuilt.{any_unbuilt, gives_unbuilt};
 ghost use Rattle.nim_meaning.specs.LeftOut.{left_out_in, left_out_in_path, left_out_in_args};
 ghost use Rattle.nim_meaning.specs.LeftOut.{first_unbuilt, is_built, is_act_built};
 ghost use Rattle.nim_meaning.specs.LeftOut.{is_exception_type};
-ghost use Rattle.nim_meaning.specs.LeftOut.{is_literal_built};
 ghost use Rattle.nim_meaning.specs.LeftOut.{◌or_then◌};
 ghost use Rattle.program_limits.specs.Known.{known_types, known_facts};
 
 use crate::known::Known;
 use crate::parts::{either, if_either, if_unbuilt, or_then, out_if, out_unless};
-use crate::types::{gives_unbuilt, is_hooked, is_unbuilt};
-use nim_program::{Choice, Expr, Literal, Node, Operand, Operation, Path, Pick};
+use crate::types::{gives_unbuilt, is_unbuilt};
+use nim_program::{Choice, Expr, Node, Operand, Operation, Path, Pick};
 use nim_types::{TypeDef, TypeId, entry, table_entries};
 
 // ---- the table of operations, by what is built
@@ -94,7 +93,7 @@ fn is_call_built(known: &Known, types: &[TypeId], operands: &Vec<Operand>) -> bo
     types.is_empty()
 }
 
-// ---- texts, and exceptions
+// ---- exceptions
 
 fn means_exception(def: &TypeDef) -> bool
     ensures { (ts : List Ty) → result ≡ is_exception_type (Some (meant ts def.now)) }
@@ -119,19 +118,6 @@ fn gives_exception(known: &Known, ty: Option<TypeId>) -> bool
     match ty {
         None => false,
         Some(ty) => is_exception(known, ty),
-    }
-}
-
-// One text, or nothing in which texts or sequences could stand.
-fn is_literal_built(known: &Known, ty: TypeId, literal: &Literal) -> bool
-    ensures { result ≡ is_literal_built (known_facts known.now)
-        (Some (type_at (known_types known.now) ty)) (literal_of literal.now) }
-{
-    match literal {
-        Literal::Text(_) => true,
-        Literal::Ordinal(_) | Literal::Nil | Literal::Parts(_) | Literal::Elements(_) => {
-            !is_hooked(known, ty)
-        }
     }
 }
 
@@ -174,9 +160,7 @@ pub fn of_expr(known: &Known, expr: &Expr) -> Option<Node>
             operands,
             ..
         } => or_then(if_unbuilt(known, *ty, *node), of_operands(known, operands)),
-        Expr::Constant { node, ty, value } => {
-            out_unless(known, Some(*ty), is_literal_built(known, *ty, value), *node)
-        }
+        Expr::Constant { node, ty, .. } => if_unbuilt(known, *ty, *node),
         Expr::Read { path } => of_path(known, path),
         Expr::Early { left, right, .. } => {
             or_then(of_expr(known, &**left), of_expr(known, &**right))

@@ -10,6 +10,7 @@ mod label_texts;
 mod lacking;
 mod laws;
 mod limits;
+mod links;
 mod parts;
 mod plain;
 mod shallow;

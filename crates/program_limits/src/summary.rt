@@ -17,12 +17,10 @@ use std::alloc::Global;
 pub const MOST_LEVELS: u32 = 64;
 
 /// Whether a ref or an object with hooks of its own is in a type, so that its values have no code yet,
-/// whether its values have hooks at all, and the levels of the type: one more than the most stands for
-/// all above.
+/// and the levels of the type: one more than the most stands for all above.
 #[derive(Clone, Copy)]
 pub struct Summary {
     pub unbuilt: bool,
-    pub hooked: bool,
     pub levels: u32,
 }
 
@@ -49,23 +47,18 @@ fn either(one: bool, other: bool) -> bool
 }
 
 // Of a type without parts.
-fn alone(unbuilt: bool, hooked: bool) -> Summary
-    ensures { result ≡ record { unbuilt = unbuilt; hooked = hooked; levels = 1 } }
+fn alone(unbuilt: bool) -> Summary
+    ensures { result ≡ record { unbuilt = unbuilt; levels = 1 } }
 {
-    Summary {
-        unbuilt,
-        hooked,
-        levels: 1,
-    }
+    Summary { unbuilt, levels: 1 }
 }
 
 // One level above some.
-fn above(unbuilt: bool, hooked: bool, levels: u32) -> Summary
-    ensures { result ≡ specs.above unbuilt hooked levels }
+fn above(unbuilt: bool, levels: u32) -> Summary
+    ensures { result ≡ specs.above unbuilt levels }
 {
     Summary {
         unbuilt,
-        hooked,
         levels: capped(u64::from(levels) + 1),
     }
 }
@@ -74,9 +67,9 @@ fn row_of(count: u32, each: Summary) -> Summary
     ensures { (f : Form) → each ≡ summary_of f → result ≡ summary_of (row count f) }
 {
     if count == 0 {
-        return alone(each.unbuilt, false);
+        return alone(each.unbuilt);
     }
-    above(each.unbuilt, each.hooked, each.levels)
+    above(each.unbuilt, each.levels)
 }
 
 fn beside(one: Summary, others: Summary) -> Summary
@@ -84,7 +77,6 @@ fn beside(one: Summary, others: Summary) -> Summary
 {
     Summary {
         unbuilt: either(one.unbuilt, others.unbuilt),
-        hooked: either(one.hooked, others.hooked),
         levels: capped(u64::from(greater(one.levels, others.levels))),
     }
 }
@@ -93,21 +85,19 @@ fn beside(one: Summary, others: Summary) -> Summary
 fn whole_of(own: bool, all: Summary) -> Summary
     ensures { (fs : Forms) → all ≡ summaries_of fs → result ≡ summary_of (object_form own fs) }
 {
-    let unbuilt = either(own, all.unbuilt);
-    let hooked = either(own, all.hooked);
-    above(unbuilt, hooked, all.levels)
+    above(either(own, all.unbuilt), all.levels)
 }
 
 fn wrapped_around(base: Summary) -> Summary
     ensures { (f : Form) → base ≡ summary_of f → result ≡ summary_of (wrapped f) }
 {
-    above(base.unbuilt, base.hooked, base.levels)
+    above(base.unbuilt, base.levels)
 }
 
 fn elements_of(each: Summary) -> Summary
     ensures { (f : Form) → each ≡ summary_of f → result ≡ summary_of (elements f) }
 {
-    above(each.unbuilt, true, each.levels)
+    above(each.unbuilt, each.levels)
 }
 
 /// Of a type that is listed; one beyond the list counts as an int.
@@ -116,7 +106,7 @@ pub fn look(known: &[Summary], ty: TypeId) -> Summary
 {
     match known.get(ty as usize) {
         Some(summary) => *summary,
-        None => alone(false, false),
+        None => alone(false),
     }
 }
 
@@ -128,7 +118,6 @@ fn look_all(known: &[Summary], bound: u32, ids: &[TypeId]) -> Summary
 {
     let mut all = Summary {
         unbuilt: false,
-        hooked: false,
         levels: 0,
     };
     for id in ids {
@@ -151,9 +140,9 @@ fn type_summary(
         result ≡ summary_at n types.now ty }
 {
     match entry(types, ty) {
-        None => alone(false, false),
+        None => alone(false),
         Some(def) => match def {
-            TypeDef::Text => alone(false, true),
+            TypeDef::Text => alone(false),
             TypeDef::Seq(of) => elements_of(look(before, *of)),
             TypeDef::Array { len, of } => row_of(*len, look(before, *of)),
             TypeDef::Tuple { parts, .. } => {
@@ -165,26 +154,26 @@ fn type_summary(
                 ..
             } => {
                 if first {
-                    return alone(false, false);
+                    return alone(false);
                 }
                 if !says(def) {
-                    return alone(false, false);
+                    return alone(false);
                 }
                 whole_of(*resource, look_all(last, types.count(), parts.as_slice()))
             }
             TypeDef::Distinct { base, .. } => {
                 if first {
-                    return alone(false, false);
+                    return alone(false);
                 }
                 wrapped_around(look(last, *base))
             }
-            TypeDef::Ref { .. } => alone(true, true),
-            TypeDef::Int => alone(false, false),
-            TypeDef::Bool => alone(false, false),
-            TypeDef::Char => alone(false, false),
-            TypeDef::Param(_) => alone(false, false),
-            TypeDef::Enum { .. } => alone(false, false),
-            TypeDef::Exception { .. } => alone(false, false),
+            TypeDef::Ref { .. } => alone(true),
+            TypeDef::Int => alone(false),
+            TypeDef::Bool => alone(false),
+            TypeDef::Char => alone(false),
+            TypeDef::Param(_) => alone(false),
+            TypeDef::Enum { .. } => alone(false),
+            TypeDef::Exception { .. } => alone(false),
         },
     }
 }
@@ -209,7 +198,7 @@ fn next_summaries(
 fn is_same(a: Summary, b: Summary) -> bool
     ensures { result ≡ true → a ≡ b }
 {
-    a.unbuilt == b.unbuilt && a.hooked == b.hooked && a.levels == b.levels
+    a.unbuilt == b.unbuilt && a.levels == b.levels
 }
 
 fn are_same(a: &[Summary], b: &[Summary]) -> bool

@@ -1,6 +1,6 @@
 // The texts of a program's constants, literals and labels, each distinct one once. They are met from the
 // last one to the first, since a part is put before all that stands behind it.
-ghost use Rattle.std.specs.Prelude.{◌≡◌, ◌∷◌, ◌++◌, [], ℕ, Bool, true, false, List, option_map};
+ghost use Rattle.std.specs.Prelude.{◌≡◌, ◌+◌, ◌∷◌, ◌++◌, [], ℕ, Bool, true, false, List, option_map};
 ghost use Rattle.std.specs.Prelude.{if◌then◌else◌, OnOk, Some};
 ghost use Rattle.std.specs.HashSet.{contains};
 ghost use Rattle.nim_types.specs.Types.{Ty, same_text};
@@ -11,11 +11,13 @@ ghost use Rattle.nim_program.specs.View.{literal_of, literals_of, expr_of, path_
 ghost use Rattle.nim_program.specs.View.{operand_before, operands_of, choices_of, picks_of};
 ghost use Rattle.nim_program.specs.View.{if_value};
 ghost use Rattle.program_limits.specs.Data.{literal_bytes, parts_bytes, texts_size};
-ghost use Rattle.program_limits.specs.Meeting.{Met, before, own_before};
+ghost use Rattle.program_limits.specs.Meeting.{Met, Found, before, own_before};
+ghost use Rattle.program_limits.specs.Meeting.{none_found, with_text, with_linked, given_before};
 ghost use Rattle.program_limits.specs.Meeting.{literal_before, all_before, standing_before};
 
 use crate::data::plus;
 use crate::label_texts::of_pick_labels;
+use crate::links::{has_links, linked_bytes};
 use arc_base::{Bytes, Memory};
 use nim_program::{Choice, Expr, Literal, MOST_DATA, Operand, Path, Pick, text_bytes};
 use nim_types::WORD_BYTES;
@@ -31,18 +33,21 @@ pub struct Texts {
     pub kept: HashSet<Bytes>,
     pub many: u32,
     pub bytes: u32,
+    /// The bytes of constants with texts or sequences inside, wherever one is used.
+    pub linked: u32,
     /// Whether there was no memory for one.
     pub lost: bool,
 }
 
 /// None yet.
 pub fn no_texts(alloc: Global) -> Texts
-    ensures { Met result [] }
+    ensures { Met result none_found }
 {
     Texts {
         kept: HashSet::new(alloc),
         many: 0,
         bytes: 0,
+        linked: 0,
         lost: false,
     }
 }
@@ -58,7 +63,7 @@ fn put(alloc: Global, kept: &mut HashSet<Bytes>, text: &Bytes) -> Result<(), Mem
 
 /// One more.
 pub fn keep(alloc: Global, texts: &mut Texts, text: &Bytes)
-    ensures { (met : List (List ℕ)) → Met texts.old met → Met texts.new (text.now ∷ met) }
+    ensures { (met : Found) → Met texts.old met → Met texts.new (with_text text.now met) }
 {
     if texts.kept.contains(text) {
         return;
@@ -72,10 +77,18 @@ pub fn keep(alloc: Global, texts: &mut Texts, text: &Bytes)
     }
 }
 
-/// The bytes of those that were met, with a word for each beyond the first `FEW_TEXTS`.
-pub fn all_size(texts: &Texts) -> u32
-    ensures { (met : List (List ℕ)) → texts.now.lost ≡ false → Met texts.now met
-        → result ≡ capped MOST_DATA (texts_size met) }
+// The bytes of a constant with texts or sequences inside, where one is used.
+fn link(texts: &mut Texts, linked: u32)
+    ensures { (bytes : ℕ) (met : Found) → linked ≡ capped MOST_DATA bytes → Met texts.old met
+        → Met texts.new (with_linked bytes met) }
+{
+    texts.linked = plus(texts.linked, linked);
+}
+
+// The bytes of those that were met, with a word for each beyond the first `FEW_TEXTS`.
+fn kept_size(texts: &Texts) -> u32
+    ensures { (met : Found) → texts.now.lost ≡ false → Met texts.now met
+        → result ≡ capped MOST_DATA (texts_size met.texts) }
 {
     if texts.many <= FEW_TEXTS {
         return texts.bytes;
@@ -86,9 +99,17 @@ pub fn all_size(texts: &Texts) -> u32
     plus(texts.bytes, WORD_BYTES * (texts.many - FEW_TEXTS))
 }
 
+/// The bytes of all that was met.
+pub fn all_size(texts: &Texts) -> u32
+    ensures { (met : Found) → texts.now.lost ≡ false → Met texts.now met
+        → result ≡ capped MOST_DATA (texts_size met.texts + met.linked) }
+{
+    plus(kept_size(texts), texts.linked)
+}
+
 #[cycle(literals)]
 fn of_literal(alloc: Global, texts: &mut Texts, literal: &Literal)
-    ensures { (met : List (List ℕ)) → Met texts.old met
+    ensures { (met : Found) → Met texts.old met
         → Met texts.new (literal_before (literal_of literal.now) met) }
 {
     match literal {
@@ -101,7 +122,7 @@ fn of_literal(alloc: Global, texts: &mut Texts, literal: &Literal)
 
 #[cycle(literals)]
 fn of_literals(alloc: Global, texts: &mut Texts, all: &Vec<Literal>)
-    ensures { (met : List (List ℕ)) → Met texts.old met
+    ensures { (met : Found) → Met texts.old met
         → Met texts.new (all_before (literals_of all.now.items) met) }
 {
     let mut i = all.len();
@@ -111,6 +132,15 @@ fn of_literals(alloc: Global, texts: &mut Texts, all: &Vec<Literal>)
     }
 }
 
+// Those of a constant, and its bytes where texts or sequences stand in it.
+fn of_constant(alloc: Global, texts: &mut Texts, literal: &Literal)
+    ensures { (met : Found) → Met texts.old met
+        → Met texts.new (given_before (literal_of literal.now) met) }
+{
+    of_literal(alloc, texts, literal);
+    link(texts, linked_bytes(literal))
+}
+
 // Adds the bytes of a constant.
 #[cycle(literal_bytes)]
 fn push_literal(bytes: &mut Bytes, literal: &Literal) -> Result<(), Memory>
@@ -118,9 +148,8 @@ fn push_literal(bytes: &mut Bytes, literal: &Literal) -> Result<(), Memory>
 {
     match literal {
         Literal::Ordinal(z) => bytes.append(&z.cast_unsigned().to_le_bytes()),
-        Literal::Text(_) | Literal::Nil => Ok(()),
+        Literal::Text(_) | Literal::Nil | Literal::Elements(_) => Ok(()),
         Literal::Parts(all) => push_parts(bytes, all),
-        Literal::Elements(all) => push_parts(bytes, all),
     }
 }
 
@@ -137,10 +166,10 @@ fn push_parts(bytes: &mut Bytes, all: &Vec<Literal>) -> Result<(), Memory>
     Ok(())
 }
 
-// The bytes of a constant that is read in place.
+// The bytes of a constant that is read in place, without texts or sequences.
 fn keep_bytes(alloc: Global, texts: &mut Texts, literal: &Literal)
-    ensures { (met : List (List ℕ)) → Met texts.old met
-        → Met texts.new (literal_bytes (literal_of literal.now) ∷ met) }
+    ensures { (met : Found) → Met texts.old met
+        → Met texts.new (with_text (literal_bytes (literal_of literal.now)) met) }
 {
     let mut bytes = Bytes::new(alloc);
     match push_literal(&mut bytes, literal) {
@@ -149,22 +178,21 @@ fn keep_bytes(alloc: Global, texts: &mut Texts, literal: &Literal)
     }
 }
 
-// A constant that is read in place: its bytes, unless it is a text.
+// A constant that is read in place: its bytes, once more where texts or sequences stand in it.
 fn keep_standing(alloc: Global, texts: &mut Texts, literal: &Literal)
-    ensures { (met : List (List ℕ)) → Met texts.old met
+    ensures { (met : Found) → Met texts.old met
         → Met texts.new (standing_before (Some (literal_of literal.now)) met) }
 {
-    match literal {
-        Literal::Text(_) => {}
-        Literal::Ordinal(_) | Literal::Nil | Literal::Parts(_) | Literal::Elements(_) => {
-            keep_bytes(alloc, texts, literal)
-        }
+    if has_links(literal) {
+        link(texts, linked_bytes(literal))
+    } else {
+        keep_bytes(alloc, texts, literal)
     }
 }
 
 // The value that a path begins with, where it is a constant.
 fn of_standing(alloc: Global, texts: &mut Texts, value: &Expr)
-    ensures { (ts : List Ty) (met : List (List ℕ)) → Met texts.old met
+    ensures { (ts : List Ty) (met : Found) → Met texts.old met
         → Met texts.new (standing_before (constant_in (expr_of ts value.now)) met) }
 {
     match value {
@@ -176,14 +204,14 @@ fn of_standing(alloc: Global, texts: &mut Texts, value: &Expr)
 /// Those of an expression.
 #[cycle(exprs)]
 pub fn of_expr(alloc: Global, texts: &mut Texts, expr: &Expr)
-    ensures { (ts : List Ty) (met : List (List ℕ)) → Met texts.old met
+    ensures { (ts : List Ty) (met : Found) → Met texts.old met
         → Met texts.new (total before own_before (expr_of ts expr.now) met) }
 {
     match expr {
         Expr::Apply { operands, .. } => of_operands(alloc, texts, operands),
         Expr::Call { operands, .. } => of_operands(alloc, texts, operands),
         Expr::Construct { operands, .. } => of_operands(alloc, texts, operands),
-        Expr::Constant { value, .. } => of_literal(alloc, texts, value),
+        Expr::Constant { value, .. } => of_constant(alloc, texts, value),
         Expr::Read { path } => of_path(alloc, texts, path),
         Expr::Early { left, right, .. } => {
             of_expr(alloc, texts, &**right);
@@ -214,7 +242,7 @@ pub fn of_expr(alloc: Global, texts: &mut Texts, expr: &Expr)
 /// Those of a path.
 #[cycle(exprs)]
 pub fn of_path(alloc: Global, texts: &mut Texts, path: &Path)
-    ensures { (ts : List Ty) (read : Bool) (met : List (List ℕ)) → Met texts.old met
+    ensures { (ts : List Ty) (read : Bool) (met : Found) → Met texts.old met
         → Met texts.new (total_at before own_before read (path_of ts path.now) met) }
 {
     match path {
@@ -236,7 +264,7 @@ pub fn of_path(alloc: Global, texts: &mut Texts, path: &Path)
 /// Those of an operand before others.
 #[cycle(exprs)]
 pub fn of_operand(alloc: Global, texts: &mut Texts, operand: &Operand)
-    ensures { (ts : List Ty) (rest : Args) (met : List (List ℕ))
+    ensures { (ts : List Ty) (rest : Args) (met : Found)
         → Met texts.old (totals before own_before rest met)
         → Met texts.new (totals before own_before (operand_before ts operand.now rest) met) }
 {
@@ -249,7 +277,7 @@ pub fn of_operand(alloc: Global, texts: &mut Texts, operand: &Operand)
 /// Those of operands.
 #[cycle(exprs)]
 pub fn of_operands(alloc: Global, texts: &mut Texts, operands: &Vec<Operand>)
-    ensures { (ts : List Ty) (met : List (List ℕ)) → Met texts.old met
+    ensures { (ts : List Ty) (met : Found) → Met texts.old met
         → Met texts.new (totals before own_before (operands_of ts operands.now.items) met) }
 {
     let mut i = operands.len();
@@ -261,7 +289,7 @@ pub fn of_operands(alloc: Global, texts: &mut Texts, operands: &Vec<Operand>)
 
 #[cycle(exprs)]
 fn of_choices(alloc: Global, texts: &mut Texts, choices: &Vec<Choice>)
-    ensures { (ts : List Ty) (rest : Args) (met : List (List ℕ))
+    ensures { (ts : List Ty) (rest : Args) (met : Found)
         → Met texts.old (totals before own_before rest met)
         → Met texts.new (totals before own_before (choices_of ts choices.now.items rest) met) }
 {
@@ -276,7 +304,7 @@ fn of_choices(alloc: Global, texts: &mut Texts, choices: &Vec<Choice>)
 
 #[cycle(exprs)]
 fn of_picks(alloc: Global, texts: &mut Texts, picks: &Vec<Pick>)
-    ensures { (ts : List Ty) (rest : Args) (met : List (List ℕ))
+    ensures { (ts : List Ty) (rest : Args) (met : Found)
         → Met texts.old (totals before own_before rest met)
         → Met texts.new (totals before own_before (picks_of ts picks.now.items rest) met) }
 {
@@ -290,7 +318,7 @@ fn of_picks(alloc: Global, texts: &mut Texts, picks: &Vec<Pick>)
 // Those of the value of `else`, where there is one.
 #[cycle(exprs)]
 fn of_else(alloc: Global, texts: &mut Texts, otherwise: &Option<Box<Expr>>)
-    ensures { (ts : List Ty) (met : List (List ℕ)) → Met texts.old met
+    ensures { (ts : List Ty) (met : Found) → Met texts.old met
         → Met texts.new (totals before own_before
         (if_value ts (option_map (λ e. e.value) otherwise.now)) met) }
 {

@@ -2,7 +2,6 @@
 ghost use Rattle.std.specs.Prelude.{◌≡◌};
 ghost use Rattle.nim_types.specs.Table.{type_at};
 ghost use Rattle.nim_program.specs.View.{if_type};
-ghost use Rattle.nim_meaning.specs.Here.{is_hooked};
 ghost use Rattle.nim_meaning.specs.Unbuilt.{is_unbuilt, gives_unbuilt};
 ghost use Rattle.program_limits.specs.Summaries.{summary_in};
 ghost use Rattle.program_limits.specs.Known.{known_types, known_facts};
@@ -34,13 +33,6 @@ pub fn gives_unbuilt(known: &Known, ty: Option<TypeId>) -> bool
         None => false,
         Some(ty) => is_unbuilt(known, ty),
     }
-}
-
-/// Whether values of the type have hooks.
-pub fn is_hooked(known: &Known, ty: TypeId) -> bool
-    ensures { result ≡ is_hooked (known_facts known.now) (type_at (known_types known.now) ty) }
-{
-    summary(known, ty).hooked
 }
 
 /// Whether the type has too many levels.

@@ -37,8 +37,8 @@ use Rattle.refc_runtime.proofs.Coming.{calling_state, comes_back, ends_behind}
 use Rattle.refc_runtime.proofs.GrowFacts.{beside_more}
 use Rattle.refc_runtime.proofs.GrowRuns.{call_runs}
 use Rattle.refc_runtime.proofs.Grew.{growing_lines, Grew, grew, full}
-use Rattle.refc_runtime.proofs.Fills.{kept_length, ends_low, open_at, front_part}
-use Rattle.refc_runtime.proofs.Fills.{Filled, fills}
+use Rattle.heap_memory.proofs.ForCallers.{kept_length, ends_low, open_at, front_part}
+use Rattle.heap_memory.proofs.ForCallers.{Filled, fills}
 use Rattle.heap_memory.proofs.ForCallers.{is_there, distant}
 use Rattle.refc_runtime.proofs.Pieces.{read_far}
 use Rattle.refc_runtime.proofs.SourceReads.{IsOther, source_reads}

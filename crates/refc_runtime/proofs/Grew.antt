@@ -21,7 +21,7 @@ use Rattle.heap_memory.specs.GrowRoutine.{Owned, Growing, taking, place_of, hold
 use Rattle.heap_memory.specs.AppendRoutine.{IsFilled}
 use Rattle.heap_memory.proofs.ForCallers.{is_there}
 use Rattle.refc_runtime.proofs.GrowRuns.{call_runs}
-use Rattle.refc_runtime.proofs.Fills.{grown_filled, ends_low}
+use Rattle.heap_memory.proofs.ForCallers.{grown_filled, ends_low}
 
 module _ (law : MemoryLaw) (live : Lives) (procs : List WordProc) (n : ℕ) (grow_kept : IsKeptThere live procs (grows (own_data_at + n))) (c : Within)
     (m : Memory) (sized : Sized m) (u : Growing) (may : MayGrow (own_data_at + n) u m) (a b w d : ℕ) (k : List WordInstr) (v : Vars)

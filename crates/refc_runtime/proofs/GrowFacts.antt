@@ -13,7 +13,7 @@ use Rattle.heap_memory.specs.HeapUse.{IsThere, AreDistant, IsRefilled}
 use Rattle.heap_memory.specs.HeapRoutines.{IsBesideHeap}
 use Rattle.heap_memory.specs.TextRoutines.{AreBytes, Copying, MayCopy, AreThere}
 use Rattle.heap_memory.proofs.ForCallers.{if_same, size_some}
-use Rattle.heap_memory.proofs.ForCallers.{is_there, distant, refilled}
+use Rattle.heap_memory.proofs.ForCallers.{beside_heap, is_there, distant, refilled}
 use Rattle.heap_memory.proofs.ForCallers.{written_in, part_read, part_written}
 
 -- ---- changes of memory
@@ -25,13 +25,6 @@ beside_more at m middle other x y = record {
       let same = x.sizes.heap in
       y.beside b n words (subst (λ l. Beside b n heap_at l) (sym same) heap) ∙ x.beside b n words heap;
 }
-
-pub beside_heap : (at : ℕ) (m other : Memory) (a n : ℕ) → heap_at ≤ a → a + n ≤ heap_at + length m.heap → IsRewritten m other a n → IsBesideHeap at m other
-beside_heap at m other a n low high x = record { sizes = x.sizes; beside = λ b k words heap. x.beside b k (sides b k heap) }
-  where
-    sides : (b k : ℕ) → Beside b k heap_at (length m.heap) → Beside b k a n
-    sides b k (inl h) = inl (omega (arith, h, low))
-    sides b k (inr h) = inr (omega (arith, h, high))
 
 -- ---- the kept bytes are copied from one block to another
 

@@ -34,10 +34,11 @@ use Rattle.refc_runtime.specs.HandleCode.{text_order_lines}
 use Rattle.refc_runtime.specs.HandleCode.{handle_lines, text_write_lines}
 use Rattle.refc_runtime.proofs.Calls.{later, inside, enters, returns_awaiting, from_call}
 use Rattle.refc_runtime.proofs.Coming.{calling_state, comes_back, ends_behind}
-use Rattle.refc_runtime.proofs.Fills.{ends_low}
+use Rattle.heap_memory.proofs.ForCallers.{ends_low}
 use Rattle.refc_runtime.proofs.GrowRuns.{call_runs}
 use Rattle.refc_runtime.proofs.Pieces.{range_small}
-use Rattle.refc_runtime.proofs.HandleMemory.{run_handle, may_still, data_same, data_more, with_handle, handle_put, run_put_handle}
+use Rattle.heap_memory.proofs.ForCallers.{may_still, data_same, data_more, with_handle, handle_put}
+use Rattle.refc_runtime.proofs.HandleMemory.{run_handle, run_put_handle}
 
 -- ---- texts are compared
 

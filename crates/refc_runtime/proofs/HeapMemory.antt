@@ -20,7 +20,7 @@ use Rattle.heap_memory.proofs.ForCallers.{added_bytes, length_all}
 use Rattle.heap_memory.proofs.ForCallers.{Entry}
 use Rattle.heap_memory.proofs.ForCallers.{entry_free, with_places, entry_at, first_small, taken_free, taken_next, entry_full, next_demand, given_block}
 use Rattle.heap_memory.proofs.ForCallers.{taken_back}
-use Rattle.heap_memory.proofs.ForCallers.{BlockBytes, block_bytes_at, bytes_joined}
+use Rattle.heap_memory.proofs.ForCallers.{BlockBytes, block_bytes_at, bytes_joined, header_read}
 use Rattle.refc_runtime.proofs.HeapWords.{WordOfHeap, heap_reads, heap_may, heap_puts, word_at, Stored, stored_more, word_may, data_stored, data_here}
 use Rattle.refc_runtime.proofs.HeapWords.{data_others}
 use Rattle.refc_runtime.proofs.HeapWords.{data_heap, heap_stored, heap_words}
@@ -399,9 +399,7 @@ module _ (law : MemoryLaw) (at : ℕ) (m : Memory) (sized : Sized m) (classes : 
       front_word = header_word s.place given given_there m refl a is
 
       pub header_is : number_at m a Word ≡ Ok (first_word CONTENTS_KIND s.class)
-      header_is =
-          heap_reads m sized a q.before (word_bytes (first_word s.kind s.class)) (word_bytes s.word ++ (s.payload ++ q.after)) front_word
-          ∙ ap Ok (let b = is_given.words in little-word_bytes (first_word s.kind s.class) b.1 ∙ ap (λ i. first_word i s.class) contents)
+      header_is = header_read at classes stands m h k s there sized a is ∙ ap (λ i. Ok (first_word i s.class)) contents
 
       pub header_may : may_put m a Word ≡ true
       header_may = heap_may m sized a q.before (word_bytes (first_word s.kind s.class)) (word_bytes s.word ++ (s.payload ++ q.after)) front_word

@@ -29,7 +29,7 @@ use Rattle.refc_runtime.proofs.Coming.{calling_state, comes_back, ends_behind}
 use Rattle.refc_runtime.proofs.GrowFacts.{beside_more}
 use Rattle.refc_runtime.proofs.GrowRuns.{call_runs}
 use Rattle.refc_runtime.proofs.Grew.{growing_lines, Grew, grew, full}
-use Rattle.refc_runtime.proofs.Fills.{ends_low, open_at, Filled, fills}
+use Rattle.heap_memory.proofs.ForCallers.{ends_low, open_at, Filled, fills}
 use Rattle.refc_runtime.proofs.SourceReads.{IsOther, IsReadable, source_reads}
 
 -- ---- a source's bytes are put behind a text

@@ -33,7 +33,6 @@ mod GrowHead
 mod GrowRuns
 mod OrderRuns
 mod Coming
-mod Fills
 mod Grew
 mod ByteStores
 mod ReleaseRuns

@@ -33,7 +33,7 @@ use Rattle.heap_memory.specs.LineRoutine.{block_under_way}
 use Rattle.refc_runtime.specs.InputCode.{line_end_lines, char_lines, read_lines}
 use Rattle.refc_runtime.proofs.ByteStores.{byte_may, byte_sized, byte_written, byte_here, first_open}
 use Rattle.refc_runtime.proofs.Calls.{later, inside}
-use Rattle.refc_runtime.proofs.Fills.{kept_length, ends_low, open_at, Filled, fills}
+use Rattle.heap_memory.proofs.ForCallers.{kept_length, ends_low, open_at, Filled, fills}
 use Rattle.refc_runtime.proofs.Grew.{growing_lines, Grew, grew, full}
 use Rattle.heap_memory.proofs.ForCallers.{still_heap}
 use Rattle.refc_runtime.proofs.LineStages.{Stage, growth, may_be_longer, kept_text, holds_same, grows_same, work_same, next_stage}

@@ -5,7 +5,7 @@ use Rattle.std.specs.Prelude.{◌==◌}
 use Rattle.std.proofs.lemmas.Bool.{and_from, cond-true, cases_lt}
 use Rattle.std.proofs.lemmas.Option.{none-some, same_Some}
 use Rattle.std.proofs.lemmas.List.{drop-drop}
-use Rattle.std.proofs.Math.Seq.{take-add, take-append_seam, drop-append_seam}
+use Rattle.std.proofs.Math.Seq.{take-append_seam, drop-append_seam}
 use Rattle.rv32_isa.specs.declared.micro_op.Size.{Size}
 use Rattle.rv32_isa.specs.declared.micro_op.Size.TheVariants.{Byte, Half, Word}
 use Rattle.rv32_isa.specs.declared.machine.FaultKind.TheVariants.{Misaligned}
@@ -16,7 +16,7 @@ use Rattle.rv32_isa.specs.Steps.{size_of, number_of, low_bytes}
 use Rattle.word_code.specs.Memory.{Memory, as_state, number_at, may_put, with_number, bytes_at, may_fill}
 use Rattle.word_code.specs.RoutineTable.{Beside, IsRewritten}
 use Rattle.word_code.proofs.ForCallers.{MemoryLaw, Sized, sizes_more, store_rewritten, store_sized, store_here}
-use Rattle.heap_memory.proofs.ForCallers.{nothing_below, InRegion, read_in, written_in, part_read, part_written}
+use Rattle.heap_memory.proofs.ForCallers.{nothing_below, InRegion, read_in, written_in, part_read, part_written, joined_read}
 
 -- ---- bytes as numbers
 
@@ -43,29 +43,6 @@ word_piece a b c d ha hb hc hd = (
 -- ---- ranges
 
 module _ (m : Memory) (sized : Sized m) where
-  -- two ranges, one behind the other
-  pub joined_read : (at : ℕ) (xs ys : List ℕ) → may_fill m at (length xs + length ys) ≡ true → bytes_at m at (length xs) ≡ Some xs
-      → bytes_at m (at + length xs) (length ys) ≡ Some ys → bytes_at m at (length xs + length ys) ≡ Some (xs ++ ys)
-  joined_read at [] ys may first rest =
-      let e : at + 0 ≡ at = omega arith in
-      let n : length {A = ℕ} [] + length ys ≡ length ys = omega arith in
-      ap (bytes_at m at) n ∙ ap (λ a. bytes_at m a (length ys)) (sym e) ∙ rest
-  joined_read at (x ∷ xs) ys may first rest =
-      let r = written_in m sized at (suc (length xs) + length ys) (omega arith) may in
-      let low = r.low in
-      let high = r.high in
-      let region = r.region in
-      let j : ℕ = at - region.base in
-      let front : take (suc (length xs)) (drop j region.bytes) ≡ x ∷ xs
-      = same_Some (take (suc (length xs)) (drop j region.bytes)) (x ∷ xs) (sym (region.reads at (suc (length xs)) low (omega (arith, high))) ∙ first) in
-      let next : take (length ys) (drop (at + suc (length xs) - region.base) region.bytes) ≡ ys
-      = same_Some (take (length ys) (drop (at + suc (length xs) - region.base) region.bytes)) ys
-      (sym (region.reads (at + suc (length xs)) (length ys) (omega (arith, low)) (omega (arith, high))) ∙ rest) in
-      let place : j + suc (length xs) ≡ at + suc (length xs) - region.base = omega (arith, low) in
-      region.reads at (suc (length xs) + length ys) low high
-      ∙ ap Some (take-add (suc (length xs)) (length ys) (drop j region.bytes)
-      ∙ ap₂ (λ u v. u ++ v) front (ap (take (length ys)) (drop-drop (suc (length xs)) j region.bytes ∙ ap (λ k. drop k region.bytes) place) ∙ next))
-
   -- what may be read lies behind where code begins
   pub read_far : (at : ℕ) (bytes : List ℕ) → 0 < length bytes → bytes_at m at (length bytes) ≡ Some bytes → code_at ≤ at
   read_far at [] some here = absurd (omega (arith, some))

@@ -38,7 +38,8 @@ use Rattle.refc_runtime.specs.HandleCode.{handle_lines, put_handle_lines, text_r
 use Rattle.refc_runtime.proofs.Calls.{later, inside, enters, returns_awaiting}
 use Rattle.refc_runtime.proofs.Coming.{calling_state, comes_back, ends_behind}
 use Rattle.refc_runtime.proofs.GrowRuns.{call_runs}
-use Rattle.refc_runtime.proofs.HandleMemory.{word_low, run_handle, may_still, data_more, with_handle, handle_put, run_put_handle}
+use Rattle.heap_memory.proofs.ForCallers.{may_still, data_more, with_handle, handle_put}
+use Rattle.refc_runtime.proofs.HandleMemory.{word_low, run_handle, run_put_handle}
 use Rattle.refc_runtime.proofs.Scratch.{scratch_low, scratch_words, scratch_elsewhere}
 
 -- ---- the text before still stands

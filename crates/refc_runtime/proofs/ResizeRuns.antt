@@ -31,7 +31,7 @@ use Rattle.refc_runtime.proofs.Calls.{later, inside, enters, returns_awaiting, r
 use Rattle.refc_runtime.proofs.Coming.{calling_state, comes_back, ends_behind}
 use Rattle.refc_runtime.proofs.GrowFacts.{beside_more}
 use Rattle.refc_runtime.proofs.Grew.{growing_lines, Grew, grew, full}
-use Rattle.refc_runtime.proofs.Fills.{kept_length, stays_filled, ends_low, open_at, Filled, fills}
+use Rattle.heap_memory.proofs.ForCallers.{kept_length, stays_filled, ends_low, open_at, Filled, fills}
 
 module _ (law : MemoryLaw) (live : Lives) (procs : List WordProc) (n : ℕ) (grow_kept : IsKeptThere live procs (grows (own_data_at + n))) (u : Growing)
     (s : WordState) (to : ℕ) (rest : List WordInstr) (others : List WordProc) (stands : from_proc RESIZE procs ≡ later n RESIZE 3 7 resize_lines ∷ others)

@@ -29,7 +29,7 @@ use Rattle.refc_runtime.specs.HandleCode.{put_handle_lines, put_last_lines, byte
 use Rattle.refc_runtime.specs.HandleCode.{seq_add_lines, seq_pop_lines}
 use Rattle.refc_runtime.proofs.Calls.{later, inside, enters, returns_awaiting}
 use Rattle.refc_runtime.proofs.Coming.{calling_state, comes_back}
-use Rattle.refc_runtime.proofs.Fills.{grown_filled}
+use Rattle.heap_memory.proofs.ForCallers.{grown_filled}
 use Rattle.refc_runtime.proofs.HandleMemory.{run_handle}
 use Rattle.refc_runtime.proofs.HandleRuns.{at_once, present_small, puts_comes, gives_place}
 

@@ -12,7 +12,7 @@ use Rattle.heap_memory.specs.HeapRoutines.{IsBesideHeap}
 use Rattle.heap_memory.specs.GrowRoutine.{Owned, Growing, room_of, MayGrow}
 use Rattle.heap_memory.specs.AppendRoutine.{IsFilled, block_then, classes_behind, stands_behind, Source, Outside, Inside, source_at, source_bytes, IsSource}
 use Rattle.heap_memory.proofs.ForCallers.{is_there, distant}
-use Rattle.refc_runtime.proofs.Fills.{front_read, heap_with, block_there, place_is, stood, not_other, others_stay}
+use Rattle.heap_memory.proofs.ForCallers.{front_read, heap_with, block_there, place_is, stood, not_other, others_stay}
 
 -- it isn't of the present block
 abbrev pub IsOther : Growing → Source → Type 0

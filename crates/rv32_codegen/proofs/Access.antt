@@ -37,8 +37,8 @@ use Rattle.word_code.specs.Memory.{Memory, as_state, memory_of, number_at, may_p
 use Rattle.reg_scan.specs.Alive.{Alive, read_by}
 use Rattle.reg_scan.specs.Homes.{home_of}
 use Rattle.word_code.specs.Words.{put as put_var, WordState, scene_of, settled, does as word_does, loads, shows, on}
-use Rattle.rv32_codegen.specs.Code.{does, save, fetch, store, stream_number, move, give, is_call_or_label, only_calls, left_of, right_of, argument_at}
-use Rattle.rv32_codegen.specs.Code.{move_range}
+use Rattle.rv32_codegen.specs.Code.{does, save, fetch, store, stream_number, move, give, keep, is_call_or_label, only_calls, target, left_of, right_of}
+use Rattle.rv32_codegen.specs.Code.{argument_at, move_range}
 use Rattle.rv32_codegen.proofs.StackWords.{words, word_in, put_word, length-put_word, word_put_same, word_put_other}
 use Rattle.rv32_codegen.proofs.Machine.{state_of, run_at, Fits, fits_words, word_place, Regs, Quiet, quiet_does, Goes_in, then_goes}
 use Rattle.rv32_codegen.proofs.Machine.{instr_goes, writes}
@@ -52,7 +52,7 @@ use Rattle.rv32_codegen.proofs.Frames.{Setting, whole, True, Sim}
 use Rattle.rv32_codegen.proofs.HomeRuns.{seats_past, alike_refl}
 use Rattle.rv32_codegen.proofs.LineRuns.{at_lines, setting, homes, frame_at, sim_goes, Sim_did, using_sim, if_sim, laid_of, inside_of, arguments_fit}
 use Rattle.rv32_codegen.proofs.LineRuns.{var_moves, var_brought, both_go, small_of, Behind, quiet_behind, Here, Line_sim, named_of, sets_from, same_true}
-use Rattle.rv32_codegen.proofs.LineRuns.{Passing_line, passes_alive, give_quiet}
+use Rattle.rv32_codegen.proofs.LineRuns.{Passing_line, passes_alive, target_above, target_small, sets, keep_quiet, give_quiet}
 
 module _ (g : Setting) where
   -- ---- memory
@@ -82,13 +82,13 @@ module _ (g : Setting) where
   loaded_sim bytes t r rest to (Err kind) h = tt
   loaded_sim bytes t r rest to (Ok w) h = h w refl
 
-  fetch_is : (s : Size) (rs : ℕ) (regs : List ℕ) (m : Memory) (ws input : List ℕ) (rest : List LabelLine) →
-      did g.live (whole g) g.at (run_at regs m ws input (Do (fetch s rs) ∷ rest)) rest (fetch s rs)
-      ≡ led g.live (whole g) g.at (run_at regs m ws input (Do (fetch s rs) ∷ rest)) rest
-      (loaded (state_of regs m ws) 0 5 (found (state_of regs m ws) (added (get_or regs rs 0) (signed12 0)) s))
-  fetch_is Byte rs regs m ws input rest = refl
-  fetch_is Half rs regs m ws input rest = refl
-  fetch_is Word rs regs m ws input rest = refl
+  fetch_is : (s : Size) (rd rs : ℕ) (regs : List ℕ) (m : Memory) (ws input : List ℕ) (rest : List LabelLine) →
+      did g.live (whole g) g.at (run_at regs m ws input (Do (fetch s rd rs) ∷ rest)) rest (fetch s rd rs)
+      ≡ led g.live (whole g) g.at (run_at regs m ws input (Do (fetch s rd rs) ∷ rest)) rest
+      (loaded (state_of regs m ws) 0 rd (found (state_of regs m ws) (added (get_or regs rs 0) (signed12 0)) s))
+  fetch_is Byte rd rs regs m ws input rest = refl
+  fetch_is Half rd rs regs m ws input rest = refl
+  fetch_is Word rd rs regs m ws input rest = refl
 
   pub load_sim : (to address : ℕ) (s : Size) → Line_sim g (word.Load to address s)
   load_sim to address s t rest regs ws j f =
@@ -96,23 +96,27 @@ module _ (g : Setting) where
       let vars = t.frame.proc.vars in
       let m = t.memory in
       let named = and_parts (nat_lt to vars) (nat_lt address vars) (named_of g t l rest f.sits) in
+      let lt = ltb-true to vars named.0 in
+      let rd = target (homes g t) to in
       let rs = left_of (homes g t) address in
       let r = Here g t l rest regs ws j f in
-      let last = does (give 5 (home_of (homes g t) to)) (Behind g t l rest regs ws j f) in
+      let last = keep (homes g t) to (Behind g t l rest regs ws j f) in
       let lives : Alive t.frame.proc.lines address (l ∷ rest) = read_by (inl refl) in
       using_sim g ws r t rest (t.frame.vars address) _ (λ a e.
       loaded_sim ws t r rest to (number_at m a s) (λ w h.
-      let x = var_brought g t (l ∷ rest) regs ws j f regs 5 address a (Do (fetch s rs) ∷ last) refl (omega arith) (omega arith) lives e f.kept
+      let x = var_brought g t (l ∷ rest) regs ws j f regs 5 address a (Do (fetch s rd rs) ∷ last) refl (omega arith) (omega arith) lives e f.kept
       (alike_refl regs) in
-      let mid = run_at x.0 m ws t.input (Do (fetch s rs) ∷ last) in
+      let mid = run_at x.0 m ws t.input (Do (fetch s rd rs) ∷ last) in
       let st = state_of x.0 m ws in
       let at_is = plain_address (get_or x.0 rs 0) a x.2.same (small_of g t (l ∷ rest) regs ws j f address a lives e) in
       let is : found st (added (get_or x.0 rs 0) (signed12 0)) s ≡ Ok w = ap (λ n. found st n s) at_is ∙ found_wider x.0 m ws a s w h in
-      let y = writes g.live (whole g) g.at m ws t.input x.0 (fetch s rs) 5 w last (give_quiet g t l rest regs ws j f 5 to)
-      (fetch_is s rs x.0 m ws t.input last ∙ ap (λ o. led g.live (whole g) g.at mid last (loaded st 0 5 o)) is) in
-      let z = put_gets x.0 5 w (frame_at g t j) (places_end t.frame) (omega arith) (omega arith) x.2.kept in
-      sets_from g t l rest regs ws j f r 1 4 to w (put x.0 5 w) (record { goes = refl; is = refl }) (ltb-true to vars named.0) (omega arith)
-      (λ n kept ne. z.other n (kept_apart n 5 kept refl) ∙ x.2.others n (kept_apart n 5 kept refl)) z.kept 5 (omega arith) (λ e. omega (arith, e))
+      let v = w % 2 ^ 32 in
+      let y = writes g.live (whole g) g.at m ws t.input x.0 (fetch s rd rs) rd v last (keep_quiet g t l rest regs ws j f to)
+      (fetch_is s rd rs x.0 m ws t.input last ∙ ap (λ o. led g.live (whole g) g.at mid last (loaded st 0 rd o)) is) in
+      let z = put_gets x.0 rd v (frame_at g t j) (places_end t.frame) (target_above g t (l ∷ rest) to f.sits lt)
+      (target_small g t (l ∷ rest) to f.sits lt) x.2.kept in
+      sets g t l rest regs ws j f r 1 4 to w (put x.0 rd v) (record { goes = refl; is = refl }) lt (omega arith)
+      (λ n kept ne. z.other n ne ∙ x.2.others n (kept_apart n 5 kept refl)) z.kept (omega arith)
       (then_goes g.live (whole g) g.at 0 1 3 1 _ _ _ x.1 y) z.same))
 
   store_is : (s : Size) (ra rs : ℕ) (regs : List ℕ) (m : Memory) (ws input : List ℕ) (rest : List LabelLine) →

@@ -84,8 +84,8 @@ module _ (n : ℕ) (h : Homes) (p : WordProc) (r : Reaches n h p) where
   line_most (word.Datum to a) k =
       omega (arith, keep_bytes 2 to (datum (target h to) (datum_at p a)) k (few_datum (target h to) (datum_at p a)))
   line_most (word.Load to a size) k =
-      let rest = Do (fetch size (left_of h a)) ∷ does (give 5 (home_of h to)) k in
-      omega (arith, bytes-does (bring 5 (home_of h a)) rest, few_bring 5 a, bytes-does (give 5 (home_of h to)) k, few_give 5 to)
+      let rest = Do (fetch size (target h to) (left_of h a)) ∷ keep h to k in
+      omega (arith, bytes-does (bring 5 (home_of h a)) rest, few_bring 5 a, bytes-does (settle (home_of h to)) k, few_settle to)
   line_most (word.Store a from size) k = omega (arith, both_bytes a from (Do (store size (left_of h a) (right_of h from)) ∷ k))
   line_most (word.Jump to) k = omega arith
   line_most (word.Branch test left right to) k =

@@ -132,13 +132,13 @@ line_long h p (word.Place to a) k =
 line_long h p (word.Datum to a) k =
     omega (arith, keep_long h 2 to (datum (target h to) (datum_at p a)) k (few_datum (target h to) (datum_at p a)))
 line_long h p (word.Load to a size) k =
-    let rest = Do (fetch size (left_of h a)) ∷ does (give 5 (home_of h to)) k in
+    let rest = Do (fetch size (target h to) (left_of h a)) ∷ keep h to k in
     omega (
       arith,
       length-does (bring 5 (home_of h a)) rest,
       few_bring 5 (home_of h a),
-      length-does (give 5 (home_of h to)) k,
-      few_give 5 (home_of h to),
+      length-does (settle (home_of h to)) k,
+      few_settle (home_of h to),
     )
 line_long h p (word.Store a from size) k = omega (arith, both_long h a from (Do (store size (left_of h a) (right_of h from)) ∷ k))
 line_long h p (word.Jump to) k = omega arith
@@ -215,8 +215,8 @@ line_split h p (word.Sum to from value) k =
 line_split h p (word.Place to a) k = does_two (sum (target h to) 3 (place_at p a)) (settle (home_of h to)) k
 line_split h p (word.Datum to a) k = does_two (datum (target h to) (datum_at p a)) (settle (home_of h to)) k
 line_split h p (word.Load to a size) k =
-    let b = give 5 (home_of h to) in
-    let i = fetch size (left_of h a) in
+    let b = settle (home_of h to) in
+    let i = fetch size (target h to) (left_of h a) in
     ap (λ x. does (bring 5 (home_of h a)) (Do i ∷ x)) (does_append b [] k)
     ∙ does_append (bring 5 (home_of h a)) (Do i ∷ does b []) k
 line_split h p (word.Store a from size) k = both_append h a from (Do (store size (left_of h a) (right_of h from)) ∷ []) k
@@ -313,7 +313,7 @@ line_look name h p (word.Sum to from value) k =
     skip_does _ (bring 6 (home_of h from)) _ ∙ skip_does _ (sum (target h to) (right_of h from) value) _ ∙ skip_does _ (settle (home_of h to)) k
 line_look name h p (word.Place to a) k = skip_does _ (sum (target h to) 3 (place_at p a)) _ ∙ skip_does _ (settle (home_of h to)) k
 line_look name h p (word.Datum to a) k = skip_does _ (datum (target h to) (datum_at p a)) _ ∙ skip_does _ (settle (home_of h to)) k
-line_look name h p (word.Load to a size) k = skip_does _ (bring 5 (home_of h a)) _ ∙ skip_does _ (give 5 (home_of h to)) k
+line_look name h p (word.Load to a size) k = skip_does _ (bring 5 (home_of h a)) _ ∙ skip_does _ (settle (home_of h to)) k
 line_look name h p (word.Store a from size) k = skip_does _ (bring 5 (home_of h a)) _ ∙ skip_does _ (bring 6 (home_of h from)) _
 line_look name h p (word.Jump to) k = refl
 line_look name h p (word.Branch test left right to) k = skip_does _ (bring 5 (home_of h left)) _ ∙ skip_does _ (bring 6 (home_of h right)) _
@@ -366,7 +366,7 @@ own_line h p (word.Sum to from value) =
     own_two _ (bring 6 (home_of h from)) (sum (target h to) (right_of h from) value) _ (own_does _ (settle (home_of h to)) [] tt)
 own_line h p (word.Place to a) = own_two _ (sum (target h to) 3 (place_at p a)) (settle (home_of h to)) [] tt
 own_line h p (word.Datum to a) = own_two _ (datum (target h to) (datum_at p a)) (settle (home_of h to)) [] tt
-own_line h p (word.Load to a size) = own_does _ (bring 5 (home_of h a)) _ (tt, own_does _ (give 5 (home_of h to)) [] tt)
+own_line h p (word.Load to a size) = own_does _ (bring 5 (home_of h a)) _ (tt, own_does _ (settle (home_of h to)) [] tt)
 own_line h p (word.Store a from size) = own_two _ (bring 5 (home_of h a)) (bring 6 (home_of h from)) _ (tt, tt)
 own_line h p (word.Jump to) = (tt, tt)
 own_line h p (word.Branch test left right to) = own_two _ (bring 5 (home_of h left)) (bring 6 (home_of h right)) _ (tt, tt)

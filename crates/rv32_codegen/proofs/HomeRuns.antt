@@ -84,7 +84,7 @@ module _ (live : Lives) (whole : List LabelLine) (at : Addresses) (m : Memory) (
   home_moves old rd a (Frame offset) h gt lt e small kept =
       let within : j + offset / 4 < words ws = omega (arith, h.1.1, inside) in
       load_goes live whole at m ws input old rd offset (j + offset / 4) a frame places rest quiet (far offset (offset / 4) h.0 within)
-      (place_is m ws j (offset / 4) offset fits h.0 within) within fits kept gt lt e
+      (place_is m ws j (offset / 4) offset fits h.0 within) within fits kept gt lt e small
 
   pub home_brings : (old : List ℕ) (other a : ℕ) (home : Home) → IsThere n home → 4 < other → other < 32 → word_at old ws j home ≡ a →
       a < 2 ^ 32 → Regs old frame places →

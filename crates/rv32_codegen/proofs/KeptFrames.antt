@@ -71,7 +71,7 @@ Spared r s Calls = Unit {0}
 Spared r s (Faults kind pc word) = Unit {0}
 
 loaded_spares : (s : State) (r rd : ℕ) (n : Result ℕ FaultKind) → r ≢ rd → Spared r s (loaded s 0 rd n)
-loaded_spares s r rd (Ok n) ne = other_reg s rd n r ne
+loaded_spares s r rd (Ok n) ne = other_reg s rd _ r ne
 loaded_spares s r rd (Err kind) ne = tt
 
 signed_spares : (s : State) (r rd half : ℕ) (n : Result ℕ FaultKind) → r ≢ rd → Spared r s (loaded_signed s 0 rd half n)
@@ -174,10 +174,10 @@ on_operate operation.ShiftRightSigned rd left right a = it_leaves (Sra rd left r
 on_operate operation.Less rd left right a = it_leaves (Slt rd left right) refl (λ s. a.0) (λ s. a.1)
 on_operate operation.Below rd left right a = it_leaves (Sltu rd left right) refl (λ s. a.0) (λ s. a.1)
 
-on_fetch : (s : Size) (address : ℕ) → LeavesStack (fetch s address)
-on_fetch size.Byte address = it_leaves (Lbu 5 address 0) refl (λ s. five.0) (λ s. five.1)
-on_fetch size.Half address = it_leaves (Lhu 5 address 0) refl (λ s. five.0) (λ s. five.1)
-on_fetch size.Word address = lw 5 address 0 five
+on_fetch : (s : Size) (rd address : ℕ) → Apart rd → LeavesStack (fetch s rd address)
+on_fetch size.Byte rd address a = it_leaves (Lbu rd address 0) refl (λ s. a.0) (λ s. a.1)
+on_fetch size.Half rd address a = it_leaves (Lhu rd address 0) refl (λ s. a.0) (λ s. a.1)
+on_fetch size.Word rd address a = lw rd address 0 a
 
 on_store : (s : Size) (address rs : ℕ) → LeavesStack (store s address rs)
 on_store size.Byte address rs = it_leaves (Sb address rs 0) refl (λ s. tt) (λ s. tt)
@@ -304,7 +304,7 @@ module _ (h : Homes) (p : WordProc) (good : (v : ℕ) → IsApart (home_of h v))
   own_line (word.Datum to a) k g =
       own_does (datum (target h to) (datum_at p a)) _ (on_datum (target h to) (datum_at p a) (target_apart to)) (own_keep to k g)
   own_line (word.Load to a s) k g =
-      own_does (bring 5 (home_of h a)) _ (on_bring 5 (home_of h a) five) (leaves (on_fetch s (left_of h a)) (own_give 5 to k g))
+      own_does (bring 5 (home_of h a)) _ (on_bring 5 (home_of h a) five) (leaves (on_fetch s _ (left_of h a) (target_apart to)) (own_keep to k g))
   own_line (word.Store a from s) k g = own_both a from _ (leaves (on_store s (left_of h a) (right_of h from)) g)
   own_line (word.Jump to) k g = jumps g
   own_line (word.Branch test left right to) k g = own_both left right _ (branches g)

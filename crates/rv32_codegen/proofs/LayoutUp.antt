@@ -140,7 +140,8 @@ module _ (code : List ℕ) (small : length code ≤ 524288) where
 
   loaded_up : (pc : ℕ) (s : State) (word rd : ℕ) (low high : Result ℕ FaultKind) → ((n : ℕ) → high ≡ Ok n → low ≡ Ok n) →
       Up pc s (loaded (up pc s) word rd low) (loaded s 0 rd high)
-  loaded_up pc s word rd low (Ok n) h = subst (λ r. Up pc s (loaded (up pc s) word rd r) (written s rd n)) (sym (h n refl)) (written_up pc s rd n)
+  loaded_up pc s word rd low (Ok n) h =
+      subst (λ r. Up pc s (loaded (up pc s) word rd r) (written s rd (n % 2 ^ 32))) (sym (h n refl)) (written_up pc s rd (n % 2 ^ 32))
   loaded_up pc s word rd low (Err kind) h = tt
 
   loaded_signed_up : (pc : ℕ) (s : State) (word rd half : ℕ) (low high : Result ℕ FaultKind) → ((n : ℕ) → high ≡ Ok n → low ≡ Ok n) →

@@ -157,7 +157,8 @@ start_comes lines statics heap stack input small =
     let size_is : size ≡ stack = little-word_bytes stack (omega (arith, small)) in
     let s2 = moved s1 (set one 2 size) ((s1.pc + 4) % 2 ^ 32) in
     let goes : obey s1 0 0 (Lw 2 4 4) ≡ Goes s2 =
-    lw_goes s1 0 0 2 4 4 (statics_at + 4) (word_bytes stack) refl refl (size_read s1 statics heap stack refl refl) in
+    lw_goes s1 0 0 2 4 4 (statics_at + 4) (word_bytes stack) refl refl (size_read s1 statics heap stack refl refl)
+    (let e : little (word_bytes stack) ≡ stack = size_is in omega (arith, e, small)) in
     first refl refl (first refl goes (first refl refl (first refl refl (there (end_is size stack size_is small, refl)))))
 
 pub sets_up : (k : List LabelLine) → SetUp (start_code k)

@@ -269,9 +269,9 @@ module _ (live : Lives) (whole : List LabelLine) (at : Addresses) (m : Memory) (
   -- a load of a word whose address is so far from a register
   pub lw_at : (regs : List ℕ) (rd rs offset k w : ℕ) (rest : List LabelLine) → Quiet rest →
       added (get_or regs rs 0) (signed12 offset) ≡ word_place m k →
-      k < words ws → word_in ws k ≡ w → Fits m ws →
+      k < words ws → word_in ws k ≡ w → w < 2 ^ 32 → Fits m ws →
       Goes_in live whole at 1 1 (run_at regs m ws input (Do (Lw rd rs offset) ∷ rest)) (run_at (put regs rd w) m ws input rest)
-  lw_at regs rd rs offset k w rest quiet place within word_is room =
+  lw_at regs rd rs offset k w rest quiet place within word_is small room =
       let s = state_of regs m ws in
       let at_k = word_place m k in
       let bytes = take 4 (drop (length m.places + 4 * k) (m.places ++ ws)) in
@@ -279,7 +279,7 @@ module _ (live : Lives) (whole : List LabelLine) (at : Addresses) (m : Memory) (
       let read : readable s at_k 4 ≡ Some bytes =
       stack_read s (length m.places + 4 * k) 4 (regions regs m ws room) (omega arith) (omega (arith, length-append m.places ws, within)) in
       let value : little bytes ≡ w = word_read m.places ws k ∙ word_is in
-      let goes = lw_goes s 0 0 rd rs offset at_k bytes place (omega arith) read in
+      let goes = lw_goes s 0 0 rd rs offset at_k bytes place (omega arith) read (omega (arith, value, small)) in
       instr_goes live whole at m ws input regs (Lw rd rs offset) (state_of (put regs rd w) m ws) rest quiet
       (ap (led live whole at (run_at regs m ws input (Do (Lw rd rs offset) ∷ rest)) rest) goes
       ∙ ap (λ n. Goes ([] ++ hook_at rest) 1 (run_at (put regs rd n) m ws input rest)) value)
@@ -345,17 +345,17 @@ module _ (live : Lives) (whole : List LabelLine) (at : Addresses) (m : Memory) (
   -- a word that is so far from where the frame begins, into a register
   module _ (regs : List ℕ) (rd offset k w frame places : ℕ) (rest : List LabelLine) (quiet : Quiet rest) (fits : offset < 2 ^ 32)
       (place : added frame offset ≡ word_place m k) (within : k < words ws) (room : Fits m ws) (h : Regs regs frame places) where
-    pub load_goes : 4 < rd → rd < 32 → word_in ws k ≡ w →
+    pub load_goes : 4 < rd → rd < 32 → word_in ws k ≡ w → w < 2 ^ 32 →
         Leads 1 3 regs (load rd offset) rest (λ new. Gets regs new rd w frame places)
-    load_goes gt lt word_is =
+    load_goes gt lt word_is small =
         cond_both (is_near offset) (Lw rd 2 (lower offset) ∷ []) (Lui rd (upper offset) ∷ Add rd rd 2 ∷ Lw rd rd (lower offset) ∷ [])
         (λ is. Leads 1 3 regs is rest (λ new. Gets regs new rd w frame places))
         (λ near.
-        let a = lw_at regs rd 2 (lower offset) k w rest quiet (near_place regs offset frame places fits near h ∙ place) within word_is room in
+        let a = lw_at regs rd 2 (lower offset) k w rest quiet (near_place regs offset frame places fits near h ∙ place) within word_is small room in
         (put regs rd w, goes_within live whole at 1 1 1 3 _ _ (omega arith) (omega arith) a, put_gets regs rd w frame places gt lt h))
         (λ far.
         let x = reach_goes regs rd offset frame places (Do (Lw rd rd (lower offset)) ∷ rest) refl gt lt fits h in
-        let a = lw_at x.0 rd rd (lower offset) k w rest quiet (x.2.place ∙ place) within word_is room in
+        let a = lw_at x.0 rd rd (lower offset) k w rest quiet (x.2.place ∙ place) within word_is small room in
         let y = put_gets x.0 rd w frame places gt lt x.2.kept in (
           put x.0 rd w,
           goes_within live whole at 3 1 3 3 _ _ (omega arith) (omega arith) (then_goes live whole at 2 1 2 1 _ _ _ x.1 a),

@@ -98,10 +98,10 @@ in_operate operation.ShiftRightSigned rd left right a b c = (a, b, c)
 in_operate operation.Less rd left right a b c = (a, b, c)
 in_operate operation.Below rd left right a b c = (a, b, c)
 
-in_fetch : (s : Size) (address : ℕ) → address < 32 → IsInRange (fetch s address)
-in_fetch size.Byte address h = (omega arith, h, omega arith)
-in_fetch size.Half address h = (omega arith, h, omega arith)
-in_fetch size.Word address h = (omega arith, h, omega arith)
+in_fetch : (s : Size) (rd address : ℕ) → rd < 32 → address < 32 → IsInRange (fetch s rd address)
+in_fetch size.Byte rd address a h = (a, h, omega arith)
+in_fetch size.Half rd address a h = (a, h, omega arith)
+in_fetch size.Word rd address a h = (a, h, omega arith)
 
 in_store : (s : Size) (address rs : ℕ) → address < 32 → rs < 32 → IsInRange (store s address rs)
 in_store size.Byte address rs a b = (a, b, omega arith)
@@ -189,7 +189,7 @@ module _ (h : Homes) (good : (v : ℕ) → IsSmall (home_of h v)) where
       fields_does (datum (target h to) (datum_at p a)) _ (in_datum (target h to) (datum_at p a) (small_target to)) (fields_keep to k g)
   fields_line p (word.Load to a size) k g =
       fields_does (bring 5 (home_of h a)) _ (in_bring 5 (home_of h a) (omega arith))
-      (in_fetch size _ (small_left a), fields_give 5 to k (omega arith) g)
+      (in_fetch size _ _ (small_target to) (small_left a), fields_keep to k g)
   fields_line p (word.Store a from size) k g = fields_both a from _ (in_store size _ _ (small_left a) (small_right from), g)
   fields_line p (word.Jump to) k g = (omega arith, g)
   fields_line p (word.Branch test left right to) k g = fields_both left right _ ((small_left left, small_right right), g)

@@ -157,14 +157,14 @@ module _ (g : Setting) where
 
   -- the return address is in x1: it is still there, or is loaded
   restores : (m : Memory) (ws input regs : List ℕ) (j return : ℕ) (leaf : Bool) (rest : List LabelLine) → Quiet rest → Fits m ws → j < words ws →
-      IsRegs regs → get_or regs 2 0 ≡ word_place m j → word_in ws j ≡ return → (leaf ≡ true → get_or regs 1 0 ≡ return) →
+      IsRegs regs → get_or regs 2 0 ≡ word_place m j → word_in ws j ≡ return → return < 2 ^ 32 → (leaf ≡ true → get_or regs 1 0 ≡ return) →
       Leads g.live (whole g) g.at m ws input 0 1 regs (restore leaf) rest (λ new. Puts regs new 1 return)
-  restores m ws input regs j return true rest quiet fits within good frame is there =
+  restores m ws input regs j return true rest quiet fits within good frame is small there =
       (regs, steps_none (step g.live (whole g) g.at) (run_at regs m ws input rest) 1, record { good = good; same = there refl; other = λ r _. refl })
-  restores m ws input regs j return false rest quiet fits within good frame is there =
+  restores m ws input regs j return false rest quiet fits within good frame is small there =
       let most = fits.stack_most in
       let place = plain_address (get_or regs 2 0) (word_place m j) frame (omega (arith, most, within)) in
-      let x = lw_at g.live (whole g) g.at m ws input regs 1 2 0 j return rest quiet place within is fits in (
+      let x = lw_at g.live (whole g) g.at m ws input regs 1 2 0 j return rest quiet place within is small fits in (
         put regs 1 return,
         goes_within g.live (whole g) g.at 1 0 1 1 _ _ (omega arith) (omega arith) x,
         record {
@@ -217,7 +217,7 @@ module _ (g : Setting) where
       let x = var_moves g t (word.Return from ∷ rest) regs ws j f regs 10 from a second (quiet_does (restore leaf) third quiet_third) (omega arith)
       (omega arith) lives e f.kept (alike_refl regs) in
       let still : leaf ≡ true → get_or x.0 1 0 ≡ return = λ b. x.2.other 1 (λ e. omega (arith, e)) ∙ f.leaf b refl ∙ returns in
-      let y = restores m ws t.input x.0 j return leaf third quiet_third f.fits within x.2.kept.good x.2.kept.frame_is returns still in
+      let y = restores m ws t.input x.0 j return leaf third quiet_third f.fits within x.2.kept.good x.2.kept.frame_is returns small still in
       let one = y.0 in
       let z = sum_any g.live (whole g) g.at m ws t.input one 2 2 h.frame fourth quiet_fourth (omega arith) (omega arith) (λ e. omega (arith, e)) y.2.good in
       let two = z.0 in

@@ -257,7 +257,8 @@ module _ (g : Setting) where
         let small = room.stack_most in
         let v_is : v ≡ stack = little-word_bytes stack (omega (arith, small)) in
         let two = put one 2 v in
-        let goes = lw_goes (state_of one memory ws) 0 0 2 4 4 (statics_at + 4) (word_bytes stack) refl refl (size_read one) in
+        let goes = lw_goes (state_of one memory ws) 0 0 2 4 4 (statics_at + 4) (word_bytes stack) refl refl (size_read one)
+        (let e : little (word_bytes stack) ≡ stack = v_is in omega (arith, e, small)) in
         let b = instr_goes g.live (whole g) g.at memory ws input one (Lw 2 4 4) (state_of two memory ws) third refl
         (ap (led g.live (whole g) g.at (run_at one memory ws input second) third) goes) in
         let three = put two 3 base_at in

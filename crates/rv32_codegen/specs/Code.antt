@@ -101,11 +101,11 @@ operate operation.ShiftRightSigned rd left right = Sra rd left right
 operate operation.Less rd left right = Slt rd left right
 operate operation.Below rd left right = Sltu rd left right
 
--- x5 gets what stands at the address in a register
-abbrev pub fetch : Size → (address : ℕ) → Instr
-fetch size.Byte address = Lbu 5 address 0
-fetch size.Half address = Lhu 5 address 0
-fetch size.Word address = Lw 5 address 0
+-- a register gets what stands at the address in a register
+abbrev pub fetch : Size → (rd address : ℕ) → Instr
+fetch size.Byte rd address = Lbu rd address 0
+fetch size.Half rd address = Lhu rd address 0
+fetch size.Word rd address = Lw rd address 0
 
 -- a register is put to the address in a register
 abbrev pub store : Size → (address rs : ℕ) → Instr
@@ -236,7 +236,7 @@ line_code h p (word.Sum to from value) k = does (bring 6 (home_of h from)) (does
 line_code h p (word.Place to at) k = does (sum (target h to) 3 (place_at p at)) (keep h to k)
 line_code h p (word.Datum to at) k = does (datum (target h to) (datum_at p at)) (keep h to k)
 line_code h p (word.Load to address size) k =
-    does (bring 5 (home_of h address)) (Do (fetch size (left_of h address)) ∷ does (give 5 (home_of h to)) k)
+    does (bring 5 (home_of h address)) (Do (fetch size (target h to) (left_of h address)) ∷ keep h to k)
 line_code h p (word.Store address from size) k = bring_both h address from (Do (store size (left_of h address) (right_of h from)) ∷ k)
 line_code h p (word.Jump to) k = Jump 0 (Inner p.number to) ∷ k
 line_code h p (word.Branch test left right to) k =

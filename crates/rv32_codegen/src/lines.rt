@@ -180,12 +180,13 @@ fn emit_fetch(
 ) -> Result<(), Memory>
     ensures { OnOk result ((k : List Line) → lines.new ++ k ≡ lines.old ++ code.does
         (code.bring 5 (home_of homes.now address))
-        (LabelLine.Do (code.fetch size (code.left_of homes.now address))
-        ∷ code.does (code.give 5 (home_of homes.now to)) k)) }
+        (LabelLine.Do (code.fetch size (code.target homes.now to) (code.left_of homes.now address))
+        ∷ code.keep homes.now to k)) }
 {
     emit_bring(lines, 5, home_of(homes, address))?;
-    emit(lines, &[fetch(size, left_of(homes, address))])?;
-    emit_give(lines, 5, home_of(homes, to))
+    let rd = target(homes, to);
+    emit(lines, &[fetch(size, rd, left_of(homes, address))])?;
+    keep(lines, homes, to)
 }
 
 fn emit_store(

@@ -222,14 +222,14 @@ pub fn operate(operation: WordOperation, rd: u32, left: u32, right: u32) -> Inst
     }
 }
 
-/// The instruction that loads so much into x5 from the address in a register.
-pub fn fetch(size: Size, address: u32) -> Instr
-    ensures { result ≡ code.fetch size address }
+/// The instruction that loads so much into a register from the address in another one.
+pub fn fetch(size: Size, rd: u32, address: u32) -> Instr
+    ensures { result ≡ code.fetch size rd address }
 {
     match size {
-        Size::Byte => lbu(5, address, 0),
-        Size::Half => lhu(5, address, 0),
-        Size::Word => lw(5, address, 0),
+        Size::Byte => lbu(rd, address, 0),
+        Size::Half => lhu(rd, address, 0),
+        Size::Word => lw(rd, address, 0),
     }
 }
 

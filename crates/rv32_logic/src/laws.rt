@@ -1,5 +1,5 @@
 // The laws of machine code.
-ghost use Rattle.std.specs.Prelude.{◌≡◌, ◌<◌, ◌≤◌, ◌+◌, ◌*◌, ◌/◌, ◌%◌, ℕ, List, ◌∷◌, ◌++◌, length, take, drop, Some, Bool, true};
+ghost use Rattle.std.specs.Prelude.{◌≡◌, ◌<◌, ◌≤◌, ◌+◌, ◌*◌, ◌/◌, ◌%◌, ◌^◌, ℕ, List, ◌∷◌, ◌++◌, length, take, drop, Some, Bool, true};
 ghost use Rattle.std.specs.List.{flat_map};
 ghost use Rattle.rv32_isa.specs.declared.instr.Instr.{Instr};
 ghost use Rattle.rv32_isa.specs.declared.instr.Instr.TheVariants.{Lw, Sw};
@@ -40,8 +40,8 @@ pub fn memory_access()
         i + length bytes ≤ length s.stack →
         filled s (stack_at + i) bytes ≡ record s { stack = put_bytes s.stack i bytes } }
     ensures load_word { (s : State) (link word rd rs1 offset at : ℕ) (bytes : List ℕ) → address s rs1 offset ≡ at →
-        at % 4 ≡ 0 → readable s at 4 ≡ Some bytes → obey s link word (Lw rd rs1 offset) ≡ Goes
-        (moved s (put s.regs rd (little bytes)) (next_pc s)) }
+        at % 4 ≡ 0 → readable s at 4 ≡ Some bytes → little bytes < 2 ^ 32 →
+        obey s link word (Lw rd rs1 offset) ≡ Goes (moved s (put s.regs rd (little bytes)) (next_pc s)) }
     ensures store_word { (s next : State) (link word rs1 rs2 offset at : ℕ) → address s rs1 offset ≡ at →
         at % 4 ≡ 0 → writable s at 4 ≡ true → filled s at (word_bytes (reg s rs2)) ≡ next →
         obey s link word (Sw rs1 rs2 offset) ≡ Goes (skip next) }

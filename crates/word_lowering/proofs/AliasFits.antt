@@ -18,6 +18,7 @@ use Rattle.flat_code.specs.Fits.{Signature, value, location, any_place, may_writ
 use Rattle.word_lowering.specs.declared.homes.Alias.{Alias}
 use Rattle.word_lowering.specs.declared.homes.Alias.TheVariants as alias
 use Rattle.word_lowering.specs.Aliases.{value_to, location_to, is_read, text_in, texts_of, text_alias, alias_by, is_it, alias_in}
+use Rattle.flat_code.specs.PieceShapes.{has_pieces}
 use Rattle.word_lowering.proofs.LineFits.{are_of}
 use Rattle.word_lowering.proofs.Options.{none_some, some_same}
 use Rattle.word_lowering.proofs.ShapeFacts.{never}
@@ -217,10 +218,11 @@ module _ (known : Known) (procs : List Signature) (globals places : List FlatPla
   value_by t (L.Root to q other) n g h = none_given t g
   value_by t (L.Fresh to from waits) n g h = none_given t g
   value_by t (L.Constant to how ty pieces) n g h =
-      let shaped : Bool = has_shape (value_of pieces) (shape_of known.facts (type_at known.types ty)) in
-      let q = and_parts (are_one pieces 0 && shaped) _ h in
-      pieces_written (is_read how.how) t to ty n pieces (some_same to t g) (and_parts (is_of (value_at to) (Some (type_at known.types ty))) _ q.1).0
-      (and_parts (are_one pieces 0) shaped q.0).1
+      let typed : Bool = is_of (value_at to) (Some (type_at known.types ty)) in
+      let s : Shape = shape_of known.facts (type_at known.types ty) in
+      let q = and_parts (are_one pieces 0 && has_pieces s pieces) typed h in
+      let shaped = and_parts (has_shape (value_of pieces) s) _ (and_parts (are_one pieces 0) (has_pieces s pieces) q.0).1 in
+      pieces_written (is_read how.how) t to ty n pieces (some_same to t g) q.1 shaped.0
   value_by t line n g h = inl refl
 
   -- a temporary with a value is another name for a text alone

@@ -8,6 +8,7 @@ use Rattle.flat_code.specs.declared.block.BlockLine.{BlockLine}
 use Rattle.flat_code.specs.Lines.{gives}
 use Rattle.flat_code.specs.Running.{scene_of}
 use Rattle.flat_code.specs.Scene.{Passes, Temps, with_value}
+use Rattle.word_code.specs.declared.word.WordInstr.{WordInstr}
 use Rattle.word_code.specs.Memory.{Memory}
 use Rattle.word_code.specs.Words.{Vars}
 use Rattle.word_code.proofs.ForCallers.{at}
@@ -20,19 +21,21 @@ use Rattle.word_lowering.proofs.Gets.{SameTemps, same_temps}
 use Rattle.word_lowering.proofs.HandleLines.{HandleThere, append_good, append_there, length_short}
 use Rattle.word_lowering.proofs.Lines.{Basis, IsGood, Settles, all_procs, changed, starts}
 use Rattle.word_lowering.proofs.OrdinalRuns.{AllSame}
-use Rattle.word_lowering.proofs.Related.{Both, high, low, within}
+use Rattle.word_lowering.proofs.Related.{Both, high, within}
 use Rattle.word_lowering.proofs.RowGood.{IsLeftHere}
 use Rattle.word_lowering.proofs.RowOperands.{HasHandleAt}
 use Rattle.word_lowering.proofs.RowRuns.{RowDoes, in_front}
-use Rattle.word_lowering.proofs.RowSettles.{row_deed, row_settles}
+use Rattle.word_lowering.proofs.RowSettles.{LeavesGood, mapped, row_deed, row_settles}
 use Rattle.word_lowering.proofs.Settling.{code_here, code_next}
 use Rattle.word_lowering.proofs.TextRowRuns.{TEXT_SPARE}
 use Rattle.word_lowering.proofs.Told.{good_told}
 use Rattle.word_lowering.proofs.WrittenLines.{Writing}
 
-module _ (x : Basis) (said : Writing x) (g : Both) (line : BlockLine) (rest : List BlockLine) (y : IsGood x (starts g line rest)) (home from_home : Place)
-    (more : List ℕ) (t : HasHandleAt x said g line rest y RIGHT_HANDLE_AT (code_here x g line rest y) (append_code home from_home (code_next x g line rest y))
-    from_home more)
+-- ---- by the routine, in front of other lines
+
+module _ (x : Basis) (said : Writing x) (g : Both) (line : BlockLine) (rest : List BlockLine) (y : IsGood x (starts g line rest))
+    (lines after_it : List WordInstr) (home from_home : Place) (more : List ℕ)
+    (t : HasHandleAt x said g line rest y RIGHT_HANDLE_AT lines (append_code home from_home after_it) from_home more)
   where
     -- where the operand has its handle
     abbrev pub then_at : Both
@@ -44,35 +47,64 @@ module _ (x : Basis) (said : Writing x) (g : Both) (line : BlockLine) (rest : Li
 
     module _ (are : AreBytes t.memory.heap) (l : Location) (n : ℕ) (k : Option ℕ) (q : HandleThere x then_at line rest then_good are l n k home) (to : ℕ)
         (same : SameTemps x then_at line rest then_good (with_value to g.call.temps nothing)) where
-      abbrev temps : Unit {0} → Temps
+      abbrev pub temps : Unit {0} → Temps
       temps a = with_value to g.call.temps nothing
 
-      abbrev Behind : Unit {0} → World → Memory → Vars → Type 0
+      abbrev pub Behind : Unit {0} → World → Memory → Vars → Type 0
       Behind a after other vars = IsLeftHere x then_at line rest then_good after other q.address 8 × AllSame t.vars vars
 
       few : n + length more < 2 ^ 32
       few = let l = length_short x then_at line rest then_good are l n k home q in let r = t.short in omega (arith, l, r)
 
-      row : RowDoes x.live (all_procs x) (within x.table x.blocks g) (code_next x g line rest y) FIRST (TEXT_SPARE - t.count) Behind
-          (low x.table x.blocks (starts g line rest)) (perform (appended more l) g.world)
-      row =
+      pub append_does : RowDoes x.live (all_procs x) (within x.table x.blocks g) after_it FIRST (TEXT_SPARE - t.count) Behind
+          (at (within x.table x.blocks g) g.memory lines g.call.vars g.words) (perform (appended more l) g.world)
+      append_does =
           let few_lines = t.few in
           let spare : TEXT_SPARE - t.count + t.count ≡ TEXT_SPARE = omega (arith, few_lines) in
-          in_front x.live (all_procs x) (within x.table x.blocks g) (code_next x g line rest y) FIRST (TEXT_SPARE - t.count) t.count Behind
-          (low x.table x.blocks (starts g line rest))
-          (at (within x.table x.blocks g) t.memory (append_code home from_home (code_next x g line rest y)) t.vars g.words) t.runs
+          in_front x.live (all_procs x) (within x.table x.blocks g) after_it FIRST (TEXT_SPARE - t.count) t.count Behind
+          (at (within x.table x.blocks g) g.memory lines g.call.vars g.words)
+          (at (within x.table x.blocks g) t.memory (append_code home from_home after_it) t.vars g.words) t.runs
           (perform (appended more l) g.world)
-          (subst (λ i. RowDoes x.live (all_procs x) (within x.table x.blocks g) (code_next x g line rest y) FIRST i Behind
-          (at (within x.table x.blocks g) t.memory (append_code home from_home (code_next x g line rest y)) t.vars g.words) (perform (appended more l) g.world))
+          (subst (λ i. RowDoes x.live (all_procs x) (within x.table x.blocks g) after_it FIRST i Behind
+          (at (within x.table x.blocks g) t.memory (append_code home from_home after_it) t.vars g.words) (perform (appended more l) g.world))
           (sym spare)
-          (append_there x then_at line rest then_good are l n k home q t.address more t.text_at few from_home t.at_home (code_next x g line rest y)))
+          (append_there x then_at line rest then_good are l n k home q t.address more t.text_at few from_home t.at_home after_it))
 
-      pub append_settles : Settles x (starts g line rest) rest
-          (gives (scene_of (high x.table x.blocks (starts g line rest))) to (costs 1 (appended more l >> give nothing) >>= (λ v. give v)))
-      append_settles =
-          subst (λ done. Settles x (starts g line rest) rest (Passes (behind [] 1 done)))
-          (sym (row_deed (appended more l) (λ a. nothing) (λ v. with_value to g.call.temps v) g.world))
-          (row_settles x g line rest y FIRST (TEXT_SPARE - t.count) temps Behind (perform (appended more l) g.world)
-          (append_good x then_at line rest then_good are l n k home q t.address more t.text_at few from_home t.at_home (with_value to g.call.temps nothing)
-          same)
-          row)
+      pub append_leaves : LeavesGood x then_at line rest then_good FIRST temps Behind (perform (appended more l) g.world)
+      append_leaves =
+          append_good x then_at line rest then_good are l n k home q t.address more t.text_at few from_home t.at_home (with_value to g.call.temps nothing)
+          same
+
+-- ---- as a line
+
+module _ (x : Basis) (said : Writing x) (g : Both) (line : BlockLine) (rest : List BlockLine) (y : IsGood x (starts g line rest)) (to : ℕ) (l : Location)
+    (more : List ℕ) where
+  -- what is said of it in the end
+  abbrev pub AppendSettles : Type 0
+  AppendSettles = Settles x (starts g line rest) rest
+      (gives (scene_of (high x.table x.blocks (starts g line rest))) to (costs 1 (appended more l >> give nothing) >>= (λ v. give v)))
+
+  pub as_append : Settles x (starts g line rest) rest
+      (Passes (behind [] 1 (mapped (λ a. with_value to g.call.temps nothing) (perform (appended more l) g.world)))) → AppendSettles
+  as_append h =
+      subst (λ done. Settles x (starts g line rest) rest (Passes (behind [] 1 done)))
+      (sym (row_deed (appended more l) (λ a. nothing) (λ v. with_value to g.call.temps v) g.world)) h
+
+  module _ (home from_home : Place)
+      (t : HasHandleAt x said g line rest y RIGHT_HANDLE_AT (code_here x g line rest y) (append_code home from_home (code_next x g line rest y)) from_home more)
+    where
+      abbrev at_then : Both
+      at_then = then_at x said g line rest y (code_here x g line rest y) (code_next x g line rest y) home from_home more t
+
+      abbrev good_then : IsGood x (starts at_then line rest)
+      good_then = then_good x said g line rest y (code_here x g line rest y) (code_next x g line rest y) home from_home more t
+
+      pub append_settles : (are : AreBytes t.memory.heap) (n : ℕ) (k : Option ℕ) (q : HandleThere x at_then line rest good_then are l n k home)
+          → (same : SameTemps x at_then line rest good_then (with_value to g.call.temps nothing)) → AppendSettles
+      append_settles are n k q same =
+          let here = code_here x g line rest y in
+          let next = code_next x g line rest y in
+          as_append (row_settles x g line rest y FIRST (TEXT_SPARE - t.count) (temps x said g line rest y here next home from_home more t are l n k q to same)
+          (Behind x said g line rest y here next home from_home more t are l n k q to same) (perform (appended more l) g.world)
+          (append_leaves x said g line rest y here next home from_home more t are l n k q to same)
+          (append_does x said g line rest y here next home from_home more t are l n k q to same))

@@ -1,6 +1,7 @@
 -- The value of an element of an array, whatever it has: its address comes into a variable, and its bits from there.
 use Rattle.std.proofs.Common.{◌≡◌, inl, ℕ, List, Some, true, false, refl, sym, ap, subst, ◌∙◌, arith, ◌+◌, ◌*◌, ◌<◌, ◌^◌, pos, negsuc, unsigned_abs, ℤ, []}
-use Rattle.std.specs.Prelude.{int_le, int_lt}
+use Rattle.std.specs.Prelude.{◌&&◌, int_le, int_lt, not}
+use Rattle.nim_meaning.specs.Here.{gives_hooked}
 use Rattle.nim_meaning.specs.Acts.{branch}
 use Rattle.nim_meaning.specs.Deeds.{Answers, costs, give, unless_gone}
 use Rattle.word_lowering.proofs.AddressFacts.{AtAddress, at_homed, read_row}
@@ -37,7 +38,7 @@ use Rattle.nim_types.specs.Table.{facts_in}
 use Rattle.nim_meaning.specs.Places.{fetched}
 use Rattle.word_lowering.proofs.Arithmetic.{fits_signed}
 use Rattle.word_lowering.specs.OwnedCode.{has_handle}
-use Rattle.word_lowering.proofs.HouseHooks.{homed}
+use Rattle.word_lowering.proofs.HouseHooks.{homed, unhooked_numbers}
 use Rattle.word_lowering.proofs.LocationHouses.{homed_house}
 use Rattle.nim_program.specs.Ints.{fits as is_int_number, inside}
 use Rattle.word_lowering.proofs.ControlLines.{int_read, kind_at, plain}
@@ -46,7 +47,7 @@ use Rattle.nim_meaning.specs.State.{is_full_at, is_seen, load}
 use Rattle.flat_code.specs.Fits.{is_location, is_value}
 use Rattle.word_lowering.proofs.Located.{led_stored}
 use Rattle.word_lowering.specs.Spots.{moved, spot_of}
-use Rattle.word_lowering.proofs.ShapeFacts.{never, shape_bytes}
+use Rattle.word_lowering.proofs.ShapeFacts.{never, of_numbers, shape_bytes}
 use Rattle.word_lowering.proofs.Targets.{own_either, pointed, value_alias}
 use Rattle.flat_code.specs.Running.{scene_of}
 use Rattle.word_lowering.proofs.StoredLater.{shape_some}
@@ -61,7 +62,8 @@ module _ (x : Basis) (g : Both) (rest : List BlockLine) (to from index : ℕ) wh
   abbrev line : BlockLine
   line = plain (L.Element to from index)
 
-  module _ (y : IsGood x (starts g line rest)) (there_to : IsThere g.call.site (of_value to)) where
+  module _ (y : IsGood x (starts g line rest)) (there_to : IsThere g.call.site (of_value to))
+      (numbers : of_numbers (looked x.table g.call.site (of_value to)) ≡ true) where
     abbrev into : Housed
     into = house g.call.site (of_value to)
 
@@ -85,7 +87,7 @@ module _ (x : Basis) (g : Both) (rest : List BlockLine) (to from index : ℕ) wh
         let v : Value = load g.world (location_at g.call.temps l) in
         let led : Both = with_vars g f.vars in
         let good : IsGood x (starts (with_vars g f.vars) line rest) = good_between x g line rest y f.vars f.same in
-        let r = led_stored x (starts led line rest) good led.call (inl refl) (inl refl) l a s full leads_there in
+        let r = led_stored x (starts led line rest) good led.call (inl refl) (inl refl) l a s (inl numbers) full leads_there in
         let z = value_read x led line rest good to there_to v (Variable FIFTH) (omega arith) a f.holds r.stored r.shaped r.readable rest
         (stands_next x.table x.blocks (body_of g) line rest y.stands) next in
         let long : bytes v ≡ shape_bytes s = stored_bytes (is_fixed g.ground) g.ground.blocks g.memory a s v r.stored r.shaped in
@@ -177,8 +179,10 @@ module _ (x : Basis) (g : Both) (rest : List BlockLine) (to from index : ℕ) wh
       → BitsHere x g rest line
   array_element row_like y =
       let from_kind : TypeKind = kind_if (facts_in x.table) (type_in x is_location (body_of g) from) in
-      let f = and_parts (is_of (type_in x is_value (body_of g) to) (element_of from_kind)) (is_int (kind_at x g line rest y index))
+      let f = and_parts (is_of (type_in x is_value (body_of g) to) (element_of from_kind))
+      (is_int (kind_at x g line rest y index) && not (gives_hooked (facts_in x.table) (type_in x is_value (body_of g) to)))
       (fits_here x.table x.blocks (body_of g) line rest y.stands) in
+      let i = and_parts (is_int (kind_at x g line rest y index)) (not (gives_hooked (facts_in x.table) (type_in x is_value (body_of g) to))) f.1 in
       let v = are_of (type_in x is_value (body_of g) to) (element_of from_kind) f.0 in
       let s = some_kind (facts_in x.table) (type_in x is_location (body_of g) from) (λ k. is_of (Some v.ty) (element_of k)) refl
       (subst (λ o. is_of o (element_of from_kind) ≡ true) v.is f.0) in
@@ -197,4 +201,5 @@ module _ (x : Basis) (g : Both) (rest : List BlockLine) (to from index : ℕ) wh
       (gives (scene_of (high x.table x.blocks (starts g line rest))) to (costs 1 (element_at (location_at g.call.temps there) (number_of w)))) Fails)
       (λ w h. branch_settles x (starts g line rest) rest (inside (number_of w) (length_of (load g.world (location_at g.call.temps there))))
       (gives (scene_of (high x.table x.blocks (starts g line rest))) to (costs 1 (element_at (location_at g.call.temps there) (number_of w)))) Fails
-      (λ i. array_found y there_to there e p.named shape.0 look w (int_read x g line rest y index w f.1 h) i) (λ i before. tt)))
+      (λ found. array_found y there_to (unhooked_numbers x g.call.site y.linked.0 to there_to i.1) there e p.named shape.0 look w
+      (int_read x g line rest y index w i.0 h) found) (λ found before. tt)))

@@ -16,6 +16,7 @@ use Rattle.heap_memory.specs.declared.numbers.TheConstants.{HEAP_DATA}
 use Rattle.word_code.proofs.ForCallers.{MemoryLaw}
 use Rattle.word_lowering.specs.Stored.{HaveForms}
 use Rattle.word_lowering.specs.LineCode.{all_labels}
+use Rattle.word_lowering.specs.Linked.{laid_out}
 use Rattle.word_lowering.specs.Lowered.{lowered}
 use Rattle.word_lowering.specs.Lowers.{IsFitting, AreSilent}
 use Rattle.word_lowering.specs.MayLower.{may_lower}
@@ -25,7 +26,9 @@ use Rattle.word_lowering.proofs.Lines.{Basis}
 use Rattle.word_lowering.proofs.ProcCodes.{callee}
 use Rattle.word_lowering.proofs.HookProcs.{HookLaws, TableBounds}
 use Rattle.word_lowering.proofs.HooksThere.{hooks_there, cuts_there}
+use Rattle.word_lowering.proofs.LaidOut.{among_laid}
 use Rattle.word_lowering.proofs.NamedProcs.{all_apart}
+use Rattle.word_lowering.proofs.Sites.{IsLaidOut, laid_from}
 use Rattle.word_lowering.proofs.RoomBounds.{globals_inside, data_small, enums_may, sites_within}
 use Rattle.word_lowering.proofs.DataEnd.{globals_behind, globals_whole}
 use Rattle.word_lowering.proofs.DataSizes.{data_whole, data_within}
@@ -37,14 +40,13 @@ use Rattle.flat_code.specs.declared.code.CodeProc.{CodeProc}
 use Rattle.flat_code.specs.declared.line.Piece.{Piece}
 use Rattle.flat_code.specs.Codes.{block_plain}
 use Rattle.flat_code.specs.Pieces.{piece_words, standing_bytes}
-use Rattle.flat_code.specs.Sizes.{code_texts}
 use Rattle.nim_types.specs.Types.{same_text}
 use Rattle.std.specs.Set.{is_member}
 use Rattle.std.proofs.lemmas.Bool.{true≢false}
 use Rattle.word_lowering.specs.declared.may_lower.TheConstants.{MOST_DATA}
 use Rattle.word_lowering.specs.declared.texts.TheConstants.{FIXED_BYTES}
 use Rattle.word_lowering.proofs.FirstMemory.{first_memory, globals, own, routines_given, letter_first, handles_first}
-use Rattle.word_lowering.proofs.TypeDefaults.{type_default, type_blank}
+use Rattle.word_lowering.proofs.TypeDefaults.{type_default, type_blank, type_seen}
 use Rattle.word_lowering.proofs.TypeRules.{type_compared, type_plain, type_unhooked, type_hooked, type_resource, type_built, type_built_object, type_fields}
 use Rattle.word_lowering.proofs.TypeRules.{type_object, type_converted, type_limit}
 use Rattle.word_lowering.proofs.TypeShapes.{type_part, type_shaped}
@@ -79,10 +81,10 @@ module _ (laws : HookLaws) (table : List TypeDef) (bounds : TableBounds table) (
     start = first_memory (with_runtimes runtime (lowered table blocks)) heap stack
 
     abbrev IsAmong : List ℕ → Type 0
-    IsAmong text = is_member same_text (code_texts block_plain blocks.procs) text ≡ true
+    IsAmong text = IsLaidOut table blocks text
 
     none_among : (procs : List (CodeProc BlockLine)) (text : List ℕ) → is_empty procs ≡ true
-        → is_member same_text (code_texts block_plain procs) text ≡ true → ⊥
+        → is_member same_text (laid_out (laid_from table blocks) procs) text ≡ true → ⊥
     none_among [] text e h = absurd (true≢false (sym h))
     none_among (p ∷ procs) text e h = absurd (true≢false (sym e))
 
@@ -117,6 +119,7 @@ module _ (laws : HookLaws) (table : List TypeDef) (bounds : TableBounds table) (
     within = sites_within table blocks;
     defaults = type_default table is_table (enums_may table blocks may) have;
     blanks = type_blank table is_table (enums_may table blocks may) have;
+    seen = type_seen table is_table (enums_may table blocks may) have;
     compared = type_compared table is_table have;
     plains = type_plain table is_table have;
     unhooked = type_unhooked table is_table have;
@@ -143,8 +146,9 @@ module _ (laws : HookLaws) (table : List TypeDef) (bounds : TableBounds table) (
     globals_inside = globals_inside table blocks;
     data_most = data_within table blocks may;
     given_closed = closed;
-    constants = λ pieces small among. constants_first heap stack pieces small among;
-    texts = λ text among. texts_first heap stack text among;
+    constants = λ pieces small among.
+        constants_first heap stack pieces small (among_laid (laid_from table blocks) blocks.procs (standing_bytes pieces) among);
+    laid = λ text among. texts_first heap stack text among;
     letter = letter_first table blocks runtime heap stack;
     handles = λ least places i size within whole. handles_first table blocks runtime heap stack least places i size within whole;
   }

@@ -11,18 +11,18 @@ use Rattle.word_lowering.proofs.Related.{Both, body_of, high}
 use Rattle.nim_types.specs.Types.{Facts, Ty}
 use Rattle.word_lowering.proofs.OwnedFits.{FitsRow, OwnedRow, fits_row}
 use Rattle.flat_code.specs.declared.line.From.{From}
-use Rattle.word_lowering.proofs.Scenes.{FromLiteral, FromOwned, house, looked, of_location, of_value}
+use Rattle.word_lowering.proofs.Scenes.{FromOwned, house, looked, of_location, of_value}
 use Rattle.word_lowering.proofs.ValueFacts.{HasType, has_type, look_of, type_in}
 use Rattle.word_lowering.specs.declared.homes.Home.{Home}
 use Rattle.word_lowering.specs.declared.homes.Housed.{Housed}
 use Rattle.word_lowering.specs.declared.spots.Spot.TheVariants.{Lies}
-use Rattle.word_lowering.proofs.OwnedHandles.{OwnedAt, owned_many}
+use Rattle.word_lowering.proofs.OwnedHandles.{OwnedAt, no_constant, owned_many}
 use Rattle.flat_code.specs.Scene.{Located, Passes, Where, location_at, with_value}
 use Rattle.word_lowering.proofs.SwapBits.{PointsAt, swap_settles}
 use Rattle.flat_code.specs.Shapes.{Shape, shape_of}
 use Rattle.flat_code.specs.declared.line.UseAt.{UseAt}
 use Rattle.nim_meaning.specs.State.{World, is_full_at, is_seen, is_there, is_whole, load, store}
-use Rattle.std.proofs.lemmas.Bool.{and_parts, both_ways}
+use Rattle.std.proofs.lemmas.Bool.{and_parts}
 use Rattle.word_lowering.proofs.ApplyFits.{apply_line}
 use Rattle.word_lowering.proofs.LineFits.{are_of, no_type, same_type}
 use Rattle.nim_meaning.specs.Texts.{are_seen}
@@ -108,7 +108,7 @@ module _ (x : Basis) (g : Both) (line : BlockLine) (rest : List BlockLine) (y : 
         bytes_are = sym housed.housed.bytes ∙ ap shape_bytes looks_so;
         points = λ changes.
             let o : OwnedAt x g line rest y t there s
-            = owned_many x g line rest y t there has.named (y.linked.0.standing t may) at s (λ k a is f. no_text changes k a is f) many look p.0 p.1 in
+            = owned_many x g line rest y t there has.named (y.linked.0.standing t may) at s (no_constant x g line rest y there s changes) many look p.0 p.1 in
             record {
               high = o.at_home.high;
               address = o.address;
@@ -117,13 +117,6 @@ module _ (x : Basis) (g : Both) (line : BlockLine) (rest : List BlockLine) (y : 
                   (sym (ap (location_at g.call.temps) o.is)) o.owned;
             };
       }
-    where
-      -- the text of a literal never changes
-      no_text : {s : Shape} → may_change (location_at g.call.temps there).base ≡ true → (k : Location) (a : ℕ) → there ≡ Located k
-          → FromLiteral x.table x.blocks k a s → ⊥
-      no_text changes k a is f =
-          absurd (both_ways (may_change (location_at g.call.temps there).base)
-          (ap (λ w. may_change (location_at g.call.temps w).base) is ∙ ap may_change f.base) changes)
 
 module _ (x : Basis) (g : Both) (rest : List BlockLine) (to : ℕ) (how : UseAt) where
   abbrev type_at_number : Option ℕ → Option Ty

@@ -1,8 +1,9 @@
 -- What a place of a shape starts at: zeros are that, where it has neither refs nor objects with hooks of their own.
-use Rattle.std.proofs.Common.{◌≡◌, ℕ, zero, suc, ◌+◌, ◌*◌, ◌%◌, pos, Bool, true, false, List, None, refl, ap, ◌∙◌, arith, mul-suc, mul_comm}
+use Rattle.std.proofs.Common.{◌≡◌, ℕ, zero, suc, ◌+◌, ◌*◌, ◌%◌, pos, Bool, true, false, List, None, refl, ap, ap₂, ◌∙◌, arith, mul-suc, mul_comm}
 use Rattle.std.specs.Prelude.{◌&&◌}
 use Rattle.std.proofs.lemmas.Bool.{and_parts}
-use Rattle.nim_meaning.specs.Values.{Value, Number, Parts, Handle, Ref, Resource, Values, Nil, More, count, repeated}
+use Rattle.nim_meaning.specs.Values.{Value, Number, Parts, Handle, Ref, Resource, Values, Nil, More, bytes, bytes_all, count, repeated}
+use Rattle.nim_types.specs.Forms.{or_word}
 use Rattle.flat_code.specs.Shapes.{Shape, number, reference, block, elements, row, parts, resource, Shapes, no_shapes, shapes, has_shape, are_rows, have_shapes}
 use Rattle.word_code.specs.Memory.{Memory}
 use Rattle.word_code.specs.RoutineTable.{ZeroWords}
@@ -26,13 +27,22 @@ abbrev mutual
   blanks_in no_shapes = Nil
   blanks_in (shapes s ss) = More (blank_in s) (blanks_in ss)
 
+-- what is looked at of a value
+abbrev pub seen_in : Shape → Value → Value
+seen_in block v = v
+seen_in s v = blank_in s
+
+pub seen_other : (s : Shape) (v : Value) → (s ≡ block → ⊥) → seen_in s v ≡ blank_in s
+seen_other block v other = absurd (other refl)
+seen_other s v other = refl
+
 -- numbers, texts and sequences
 abbrev mutual
   pub of_handles : Shape → Bool
   of_handles (number values) = true
   of_handles reference = false
   of_handles block = true
-  of_handles (elements s) = true
+  of_handles (elements s) = of_handles s
   of_handles (row zero s) = true
   of_handles (row (suc n) s) = of_handles s
   of_handles (parts ss) = all_of_handles ss
@@ -45,6 +55,31 @@ abbrev mutual
 count_repeated : (n : ℕ) (v : Value) → count (repeated n v) ≡ n
 count_repeated zero v = refl
 count_repeated (suc n) v = ap suc (count_repeated n v)
+
+-- ---- its bytes
+
+nothing_times : (n m : ℕ) → 0 * n ≡ 0 * m
+nothing_times n m = omega arith
+
+repeated_bytes : (n : ℕ) (v : Value) → bytes_all (repeated n v) ≡ n * bytes v
+repeated_bytes zero v = omega arith
+repeated_bytes (suc n) v = let e = repeated_bytes n v in omega (arith, e)
+
+mutual
+  pub blank_bytes : (s : Shape) → of_handles s ≡ true → bytes (blank_in s) ≡ shape_bytes s
+  blank_bytes (number values) h = refl
+  blank_bytes reference h = never h
+  blank_bytes block h = refl
+  blank_bytes (elements s) h = refl
+  blank_bytes (row zero s) h = ap or_word (repeated_bytes zero (blank_in s) ∙ nothing_times (bytes (blank_in s)) (shape_bytes s))
+  blank_bytes (row (suc n) s) h = ap or_word (repeated_bytes (suc n) (blank_in s) ∙ ap (λ k. suc n * k) (blank_bytes s h))
+  blank_bytes (parts ss) h = ap or_word (blanks_bytes ss h)
+  blank_bytes (resource ss) h = never h
+
+  blanks_bytes : (ss : Shapes) → all_of_handles ss ≡ true → bytes_all (blanks_in ss) ≡ shapes_bytes ss
+  blanks_bytes no_shapes h = refl
+  blanks_bytes (shapes s ss) h =
+      let p = and_parts (of_handles s) (all_of_handles ss) h in ap₂ (λ a b. a + b) (blank_bytes s p.0) (blanks_bytes ss p.1)
 
 module _ (StandsFixed : (place : ℕ) → List ℕ → Type 0) (d : Blocks) (m : Memory) where
   handle_zero : (a : ℕ) (s : Shape) → ZeroWords m a 8 → IsHandle d m a s 0 None

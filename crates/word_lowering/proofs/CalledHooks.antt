@@ -15,7 +15,7 @@ use Rattle.word_lowering.specs.declared.homes.Waiter.{Waiter}
 use Rattle.word_lowering.specs.LineCode as code
 use Rattle.word_lowering.specs.LineCode.{Around}
 use Rattle.word_lowering.specs.Spots.{address, spot_of}
-use Rattle.word_lowering.proofs.Fronts.{IsFront, front_address, front_none, front_on, moved_front}
+use Rattle.word_lowering.proofs.Fronts.{IsFront, front_address, front_none, front_on, moved_front, cleared_front}
 use Rattle.word_lowering.proofs.LayoutBounds.{IsBelow}
 use Rattle.word_lowering.proofs.NamedCode.{AllNamed, first_is, second_is}
 use Rattle.word_lowering.proofs.NamedCode as named
@@ -31,10 +31,12 @@ module _ (own many : ℕ) (x : Around) where
       handed k =
           Argument 0 FIRST ∷ Argument 1 SECOND ∷ Call FIRST (hook_number (code.proc_number (length x.layouts)) hook ty) ∷ k
 
-  pub got_front : (hooked : Bool) (ty : Option ℕ) (to from : Housed) → IsFront own many (code.got_code x hooked ty to from)
-  got_front true (Some ty) to from = hook_front Copies ty to.home from.home
-  got_front true None to from = moved_front own many from.is_word from.bytes (spot_of to) (spot_of from)
-  got_front false ty to from = moved_front own many from.is_word from.bytes (spot_of to) (spot_of from)
+  pub got_front : (copied blank : Bool) (ty : Option ℕ) (to from : Housed) → IsFront own many (code.got_code x copied blank ty to from)
+  got_front true blank (Some ty) to from = hook_front Copies ty to.home from.home
+  got_front true true None to from = cleared_front own many to.is_word to.bytes (spot_of to)
+  got_front true false None to from = moved_front own many from.is_word from.bytes (spot_of to) (spot_of from)
+  got_front false true ty to from = cleared_front own many to.is_word to.bytes (spot_of to)
+  got_front false false ty to from = moved_front own many from.is_word from.bytes (spot_of to) (spot_of from)
 
   pub assigned_front : (hooked : Bool) (row : List WordInstr → List WordInstr) (ty : Option ℕ) (from : List From) → IsFront own many row
       → IsFront own many (code.assigned_code x hooked row ty from)
@@ -67,12 +69,14 @@ module _ (vars : ℕ) (many : OWN_FROM ≤ vars) (x : Around) where
       (named.argument vars many (omega arith) (first_is vars many)
       (named.argument vars many (omega arith) (second_is vars many) (named.call vars many (first_is vars many) rest))))
 
-  pub got_named : (hooked : Bool) (ty : Option ℕ) (to from : Housed) {k : List WordInstr} → IsBelow vars to.home → IsBelow vars from.home → AllNamed vars k
-      → AllNamed vars (code.got_code x hooked ty to from k)
-  got_named true (Some ty) to from t f rest = hook_named Copies ty to.home from.home t f rest
-  got_named true None to from t f rest =
+  pub got_named : (copied blank : Bool) (ty : Option ℕ) (to from : Housed) {k : List WordInstr} → IsBelow vars to.home → IsBelow vars from.home
+      → AllNamed vars k → AllNamed vars (code.got_code x copied blank ty to from k)
+  got_named true blank (Some ty) to from t f rest = hook_named Copies ty to.home from.home t f rest
+  got_named true true None to from t f rest = named.cleared vars many to.is_word to.bytes (spot_of to) (named.spot_below vars to t) rest
+  got_named true false None to from t f rest =
       named.moved vars many from.is_word from.bytes (spot_of to) (spot_of from) (named.spot_below vars to t) (named.spot_below vars from f) rest
-  got_named false ty to from t f rest =
+  got_named false true ty to from t f rest = named.cleared vars many to.is_word to.bytes (spot_of to) (named.spot_below vars to t) rest
+  got_named false false ty to from t f rest =
       named.moved vars many from.is_word from.bytes (spot_of to) (spot_of from) (named.spot_below vars to t) (named.spot_below vars from f) rest
 
   pub assigned_named : (hooked : Bool) (row : List WordInstr → List WordInstr) (ty : Option ℕ) (from : List From) {k : List WordInstr}

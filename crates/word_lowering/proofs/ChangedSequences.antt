@@ -5,10 +5,11 @@ use Rattle.nim_meaning.specs.OwnedRows.{added, counted, element_of, length_to, s
 use Rattle.word_lowering.specs.LineCode.{label_before, variable_of}
 use Rattle.word_lowering.specs.Operands.{Around, location}
 use Rattle.nim_meaning.specs.Values.{At, Location, Operand, Value, length_of, location_of, nothing, number_of, value_of}
-use Rattle.word_lowering.proofs.Lines.{Basis, IsGood, Settles, known, starts}
+use Rattle.word_lowering.proofs.Lines.{Basis, IsGood, Settles, known, starts, where_there}
 use Rattle.flat_code.specs.declared.block.BlockLine.{BlockLine}
 use Rattle.word_lowering.proofs.Related.{Both, body_of, high}
-use Rattle.nim_meaning.specs.Deeds.{Deed, costs, give, looks, ◌>>=◌, ◌>>◌}
+use Rattle.nim_meaning.specs.Deeds.{Deed, costs, give, looks, unless_gone, ◌>>=◌, ◌>>◌}
+use Rattle.nim_meaning.specs.Places.{may_change}
 use Rattle.nim_types.specs.Types.{Facts, Ty}
 use Rattle.word_lowering.proofs.OwnedFits.{FitsRow, OwnedRow, fits_row}
 use Rattle.flat_code.specs.declared.line.From.{From}
@@ -90,9 +91,10 @@ module _ (x : Basis) (types : SequencesKnown x) (traps : TrapsStop x) (g : Both)
     gives_popped d = Settles x (starts g popping rest) rest (gives (scene_of (high x.table x.blocks (starts g popping rest))) to (costs 1 d >>= (λ v. give v)))
 
     pop_one : (y : IsGood x (starts g popping rest)) (z : Operand) → fetch g.call.temps (F.Place t) ≡ Some z → is_seen g.world (location_of z) ≡ true
-        → gives_popped (looks (λ world. shortened (element_of (form_for facts (type_at_number a))) (length_of (load world (location_of z)))
+        → may_change (location_of z).base ≡ true → gives_popped (looks (λ world. shortened (element_of (form_for facts (type_at_number a))) (length_of
+        (load world (location_of z)))
         (location_of z) world))
-    pop_one y z have seen =
+    pop_one y z have seen changes =
         let r : FitsRow x g rest to O.Pop how ty (a ∷ []) (F.Place t ∷ []) y = fits_row x g rest to O.Pop how ty (a ∷ []) (F.Place t ∷ []) y in
         let q = and_parts (is_sequence (kind_if facts (type_at_number a))) (is_of (kind.element_of (kind_if facts (type_at_number a))) (type_at_number ty))
         r.row in
@@ -106,7 +108,8 @@ module _ (x : Basis) (types : SequencesKnown x) (traps : TrapsStop x) (g : Both)
         let p = at_place (g.call.temps.places t) (λ there. At (location_at g.call.temps there)) z have in
         let there_seen : is_seen g.world (location_at g.call.temps p.there) ≡ true
         = subst (λ u. is_seen g.world (location_of u) ≡ true) (sym p.is) seen in
-        let m = sequence_at x types g popping rest y t p.there s.0 (typed.0 ∙ s.1) may p.has there_seen in
+        let m = sequence_at x types g popping rest y t p.there s.0 (typed.0 ∙ s.1) may p.has there_seen
+        (subst (λ u. may_change (location_of u).base ≡ true) (sym p.is) changes) in
         let l : Location = location_at g.call.temps p.there in
         subst (λ o. gives_popped (looks (λ world. shortened (element_of (form_for facts o)) (length_of (load world (location_of z))) (location_of z) world)))
         (sym s.1)
@@ -130,7 +133,11 @@ module _ (x : Basis) (types : SequencesKnown x) (traps : TrapsStop x) (g : Both)
   pop_row ty (a ∷ []) (F.Place t ∷ []) y [] have seen = absurd have
   pop_row ty (a ∷ []) (F.Place t ∷ []) y (z ∷ w ∷ xs) have seen = absurd have.1
   pop_row ty (a ∷ []) (F.Place t ∷ []) y (z ∷ []) have seen =
-      pop_one ty a t y z have.0 (and_parts (is_seen g.world (location_of z)) (are_seen g.world []) seen).0
+      where_there x (starts g (popping ty a t) rest) rest (may_change (location_of z).base)
+      (λ b. gives (scene_of (high x.table x.blocks (starts g (popping ty a t) rest))) to (costs 1 (unless_gone b (looks (λ world.
+      shortened (element_of (form_for facts (type_at_number a))) (length_of (load world (location_of z))) (location_of z) world))) >>= (λ v. give v)))
+      (λ before. tt)
+      (λ changes. pop_one ty a t y z have.0 (and_parts (is_seen g.world (location_of z)) (are_seen g.world []) seen).0 changes)
 
   -- ---- one more comes
 
@@ -142,9 +149,9 @@ module _ (x : Basis) (types : SequencesKnown x) (traps : TrapsStop x) (g : Both)
     gives_added d = Settles x (starts g adding rest) rest (gives (scene_of (high x.table x.blocks (starts g adding rest))) to (costs 1 d >>= (λ v. give v)))
 
     add_two : (y : IsGood x (starts g adding rest)) (z w : Operand) → fetch g.call.temps (F.Place t) ≡ Some z → fetch g.call.temps (F.Value u) ≡ Some w
-        → is_seen g.world (location_of z) ≡ true
+        → is_seen g.world (location_of z) ≡ true → may_change (location_of z).base ≡ true
         → gives_added (added (element_of (form_for facts (type_at_number a))) (value_of w) (location_of z) >> give nothing)
-    add_two y z w have have_value seen =
+    add_two y z w have have_value seen changes =
         let r : FitsRow x g rest to O.Add how None (a ∷ b ∷ []) (F.Place t ∷ F.Value u ∷ []) y
         = fits_row x g rest to O.Add how None (a ∷ b ∷ []) (F.Place t ∷ F.Value u ∷ []) y in
         let q = and_parts (is_sequence (kind_if facts (type_at_number a))) (is_of (type_at_number b) (kind.element_of (kind_if facts (type_at_number a))))
@@ -158,7 +165,8 @@ module _ (x : Basis) (types : SequencesKnown x) (traps : TrapsStop x) (g : Both)
         let p = at_place (g.call.temps.places t) (λ there. At (location_at g.call.temps there)) z have in
         let there_seen : is_seen g.world (location_at g.call.temps p.there) ≡ true
         = subst (λ u. is_seen g.world (location_of u) ≡ true) (sym p.is) seen in
-        let m = sequence_at x types g adding rest y t p.there s.0 (typed.0 ∙ s.1) may p.has there_seen in
+        let m = sequence_at x types g adding rest y t p.there s.0 (typed.0 ∙ s.1) may p.has there_seen
+        (subst (λ u. may_change (location_of u).base ≡ true) (sym p.is) changes) in
         let l : Location = location_at g.call.temps p.there in
         subst (λ o. gives_added (added (element_of (form_for facts o)) (value_of w) (location_of z) >> give nothing)) (sym s.1)
         (subst (λ k. gives_added (added (form_of facts s.0) (value_of w) (location_of k) >> give nothing)) p.is
@@ -186,7 +194,10 @@ module _ (x : Basis) (types : SequencesKnown x) (traps : TrapsStop x) (g : Both)
   add_row None (a ∷ b ∷ []) (F.Place t ∷ F.Value u ∷ []) y (z ∷ []) have seen = absurd have.1
   add_row None (a ∷ b ∷ []) (F.Place t ∷ F.Value u ∷ []) y (z ∷ w ∷ v ∷ xs) have seen = absurd have.1.1
   add_row None (a ∷ b ∷ []) (F.Place t ∷ F.Value u ∷ []) y (z ∷ w ∷ []) have seen =
-      add_two a b t u y z w have.0 have.1.0 (and_parts (is_seen g.world (location_of z)) (are_seen g.world (w ∷ [])) seen).0
+      where_there x (starts g (adding a b t u) rest) rest (may_change (location_of z).base)
+      (λ h. gives (scene_of (high x.table x.blocks (starts g (adding a b t u) rest))) to (costs 1 (unless_gone h
+      (added (element_of (form_for facts (type_at_number a))) (value_of w) (location_of z) >> give nothing)) >>= (λ v. give v))) (λ before. tt)
+      (λ changes. add_two a b t u y z w have.0 have.1.0 (and_parts (is_seen g.world (location_of z)) (are_seen g.world (w ∷ [])) seen).0 changes)
 
   -- ---- another length
 
@@ -202,9 +213,10 @@ module _ (x : Basis) (types : SequencesKnown x) (traps : TrapsStop x) (g : Both)
 
     -- of elements without hooks
     pub length_two : (y : IsGood x (starts g sizing rest)) (z w : Operand) → fetch g.call.temps (F.Place t) ≡ Some z → fetch g.call.temps (F.Value u) ≡ Some w
-        → is_seen g.world (location_of z) ≡ true → (e : Ty) → type_at_number a ≡ Some (type.sequence e) → hooked (form_of facts e) ≡ false
-        → gives_sized (counted (number_of (value_of w)) (λ n. length_to (form_for facts (type_at_number a)) n (location_of z)))
-    length_two y z w have have_value seen e is unhooked =
+        → is_seen g.world (location_of z) ≡ true → may_change (location_of z).base ≡ true → (e : Ty) → type_at_number a ≡ Some (type.sequence e)
+        → hooked (form_of facts e) ≡ false → gives_sized (counted (number_of (value_of w)) (λ n. length_to (form_for facts (type_at_number a)) n
+        (location_of z)))
+    length_two y z w have have_value seen changes e is unhooked =
         let r : FitsRow x g rest to O.SetLength how None (a ∷ b ∷ []) (F.Place t ∷ F.Value u ∷ []) y
         = fits_row x g rest to O.SetLength how None (a ∷ b ∷ []) (F.Place t ∷ F.Value u ∷ []) y in
         let q = and_parts (is_resized (kind_if facts (type_at_number a))) (is_int (kind_if facts (type_at_number b))) r.row in
@@ -214,7 +226,8 @@ module _ (x : Basis) (types : SequencesKnown x) (traps : TrapsStop x) (g : Both)
         let p = at_place (g.call.temps.places t) (λ there. At (location_at g.call.temps there)) z have in
         let there_seen : is_seen g.world (location_at g.call.temps p.there) ≡ true
         = subst (λ u. is_seen g.world (location_of u) ≡ true) (sym p.is) seen in
-        let m = sequence_at x types g sizing rest y t p.there e (typed.0 ∙ is) may p.has there_seen in
+        let m = sequence_at x types g sizing rest y t p.there e (typed.0 ∙ is) may p.has there_seen
+        (subst (λ u. may_change (location_of u).base ≡ true) (sym p.is) changes) in
         let l : Location = location_at g.call.temps p.there in
         let o = int_read x g sizing rest y u (value_of w) (subst (λ k. is_int (kind_if facts k) ≡ true) (sym typed_value.0) q.1)
         (given_value (g.call.temps.values u) w have_value) in
@@ -254,4 +267,8 @@ module _ (x : Basis) (types : SequencesKnown x) (traps : TrapsStop x) (g : Both)
   sequence_length_row a b (F.Place t ∷ F.Value u ∷ []) e is unhooked y (z ∷ []) have seen = absurd have.1
   sequence_length_row a b (F.Place t ∷ F.Value u ∷ []) e is unhooked y (z ∷ w ∷ v ∷ xs) have seen = absurd have.1.1
   sequence_length_row a b (F.Place t ∷ F.Value u ∷ []) e is unhooked y (z ∷ w ∷ []) have seen =
-      length_two a b t u y z w have.0 have.1.0 (and_parts (is_seen g.world (location_of z)) (are_seen g.world (w ∷ [])) seen).0 e is unhooked
+      where_there x (starts g (sizing a b t u) rest) rest (may_change (location_of z).base)
+      (λ h. gives (scene_of (high x.table x.blocks (starts g (sizing a b t u) rest))) to (costs 1 (unless_gone h
+      (counted (number_of (value_of w)) (λ n. length_to (form_for facts (type_at_number a)) n (location_of z)))) >>= (λ v. give v))) (λ before. tt)
+      (λ changes. length_two a b t u y z w have.0 have.1.0 (and_parts (is_seen g.world (location_of z)) (are_seen g.world (w ∷ [])) seen).0 changes e is
+      unhooked)

@@ -1,6 +1,9 @@
 -- Rows that change a text at a location, as lines: more characters come to it, or it gets another length.
-use Rattle.std.proofs.Common.{◌≡◌, ℕ, ◌+◌, List, [], ◌∷◌, ◌++◌, length, Option, Some, None, Bool, true, false, refl, sym, ap, subst, ◌∙◌, arith}
+use Rattle.std.proofs.Common.{◌≡◌, ℕ, ◌+◌, List, [], ◌∷◌, ◌++◌, length, map, Option, Some, None, Bool, true, false, inl, inr, refl, sym, ap}
+use Rattle.std.proofs.Common.{subst, ◌∙◌, arith}
 use Rattle.std.proofs.lemmas.Bool.{and_parts}
+use Rattle.nim_types.specs.declared.types.TypeDef.{TypeDef}
+use Rattle.nim_types.specs.declared.types.TypeDef.TheVariants as D
 use Rattle.nim_types.specs.Table.{facts_in, type_at, types_in}
 use Rattle.nim_types.specs.Types.{Ty}
 use Rattle.nim_program.specs.declared.operation.Operation.TheVariants as O
@@ -19,32 +22,41 @@ use Rattle.flat_code.specs.declared.block.BlockLine.{BlockLine}
 use Rattle.flat_code.specs.declared.line.From.{From}
 use Rattle.flat_code.specs.declared.line.From.TheVariants as F
 use Rattle.flat_code.specs.declared.line.UseAt.{UseAt}
+use Rattle.flat_code.specs.Codes.{block_plain}
 use Rattle.flat_code.specs.Fits as fit
 use Rattle.flat_code.specs.Lines.{gives}
 use Rattle.flat_code.specs.Running.{scene_of}
 use Rattle.flat_code.specs.Scene.{Located, Passes, Where, location_at, with_value}
 use Rattle.flat_code.specs.Shapes.{block, shape_of}
 use Rattle.word_code.specs.declared.word.WordInstr.{WordInstr}
+use Rattle.word_code.specs.Memory.{Memory}
+use Rattle.word_code.specs.Words.{Vars}
 use Rattle.word_lowering.specs.declared.handed.TheConstants.{RIGHT_HANDLE_AT}
 use Rattle.word_lowering.specs.declared.homes.Home.{Home as Place}
-use Rattle.word_lowering.specs.Operands.{Around, location, operand}
-use Rattle.word_lowering.specs.OwnedCode.{text_home}
+use Rattle.word_lowering.specs.LineCode.{label_before}
+use Rattle.word_lowering.specs.Operands.{Around, location, operand, variable_of}
+use Rattle.word_lowering.specs.OwnedCode.{appended_code, is_char, text_home}
 use Rattle.word_lowering.specs.RoutineCode.{append_code}
+use Rattle.word_lowering.specs.Stored.{entry_at}
 use Rattle.word_lowering.proofs.AllOperands.{Have}
-use Rattle.word_lowering.proofs.AppendLines.{append_settles, then_at, then_good}
+use Rattle.word_lowering.proofs.AppendLines.{AppendSettles, append_settles, then_at, then_good}
 use Rattle.word_lowering.proofs.ApplyFits.{apply_line}
 use Rattle.word_lowering.proofs.ControlLines.{value_type}
+use Rattle.word_lowering.proofs.Gets.{SameTemps}
 use Rattle.word_lowering.proofs.HandleLines.{HandleThere}
 use Rattle.word_lowering.proofs.JoinedTypes.{text_looks}
+use Rattle.word_lowering.proofs.LabelsHere.{own_label_at, own_label_here}
+use Rattle.word_lowering.proofs.LetterLines.{letter_settles}
 use Rattle.word_lowering.proofs.LineFits.{no_type}
-use Rattle.word_lowering.proofs.Lines.{Basis, IsGood, Settles, all_sites, known, starts}
-use Rattle.word_lowering.proofs.OperandTexts.{IsAtPlace, TextsBuilt, at_place, operand_has, placed_parts, typed_parts, type_from}
+use Rattle.word_lowering.proofs.Lines.{Basis, IsGood, Settles, all_sites, changed, known, starts}
+use Rattle.word_lowering.proofs.OperandTexts.{IsAtPlace, IsLetter, TextsBuilt, at_place, letter_from, operand_has, placed_parts, typed_parts, type_from}
 use Rattle.word_lowering.proofs.OwnedFits.{FitsRow, OwnedRow, fits_row}
 use Rattle.word_lowering.proofs.OwnedHandles.{OwnedAt, owned_at}
 use Rattle.word_lowering.proofs.Related.{Both, body_of, high}
 use Rattle.word_lowering.proofs.RowOperands.{HasHandleAt}
-use Rattle.word_lowering.proofs.LiteralHandles.{literal_load}
-use Rattle.word_lowering.proofs.Scenes.{FromLiteral, FromOwned, looked, of_location}
+use Rattle.word_lowering.proofs.GoodLeads.{data_linked}
+use Rattle.word_lowering.proofs.LinkedReads.{linked_text}
+use Rattle.word_lowering.proofs.Scenes.{FromData, FromOwned, looked, of_location}
 use Rattle.word_lowering.proofs.Settling.{code_here, code_next}
 use Rattle.word_lowering.proofs.ShapeFacts.{never}
 use Rattle.word_lowering.proofs.Sites.{around, globals_of, sigs}
@@ -95,11 +107,11 @@ module _ (x : Basis) (g : Both) (line : BlockLine) (rest : List BlockLine) (y : 
       fixed_no_handle : (text : List ℕ) (n : ℕ) (k : Option ℕ) → Fixed text ≡ Handle n k → ⊥
       fixed_no_handle text n k e = cc
 
-      no_text : (l : Location) (a : ℕ) → there ≡ Located l → FromLiteral x.table x.blocks l a block
+      no_text : (l : Location) (a : ℕ) → there ≡ Located l → FromData x.table x.blocks g.ground l a block
           → IsHandleOf (load g.world (location_at g.call.temps there)) → ⊥
       no_text l a at f h =
-          fixed_no_handle f.text h.long h.block
-          (sym (ap (λ w. load g.world (location_at g.call.temps w)) at ∙ literal_load x l a block f (starts g line rest) y) ∙ h.is)
+          let t = linked_text x (starts g line rest) y l a (data_linked x (starts g line rest) y l a block refl f) in
+          fixed_no_handle t.0 h.long h.block (sym (ap (λ w. load g.world (location_at g.call.temps w)) at ∙ t.1) ∙ h.is)
 
 -- ---- a row that changes what nobody owns is at a fault: of that nothing is said
 
@@ -154,19 +166,46 @@ module _ (x : Basis) (said : Writing x) (texts : TextsBuilt x) (g : Both) (rest 
           let s2 = and_parts (is_seen g.world (location_of w)) (are_seen g.world []) s1.1 in
           let may = (and_parts (fit.may_write (known x) (sigs x.table x.blocks) (globals_of x.table x.blocks) (body_of g).proc.places t) true r.written).0 in
           let home : Place = (location here t).home in
-          let from : Place = text_home here RIGHT_HANDLE_AT (Some b) (operand here f) in
-          let k : List WordInstr = append_code home from (code_next x g line rest y) in
-          let has : HasHandleAt x said g line rest y RIGHT_HANDLE_AT (code_here x g line rest y) k from more
-          = operand_has x said texts g line rest y RIGHT_HANDLE_AT (omega arith) (omega arith) (omega arith) k b w s2.0 f have.1.0 t2.0 (said.joined b q.1)
-          l2.0 in
-          let behind : Both = then_at x said g line rest y home from more has in
-          let good : IsGood x (starts behind line rest) = then_good x said g line rest y home from more has in
-          let h : IsHandleOf (load g.world (location_at g.call.temps p.there)) = handle_of (load g.world (location_at g.call.temps p.there)) handled in
-          let there_seen : is_seen g.world (location_at g.call.temps p.there) ≡ true
-          = subst (λ u. is_seen g.world (location_of u) ≡ true) (sym p.is) s1.0 in
-          let there = text_there x behind line rest good t (type a) p.there t1.0 (text_looks (facts_in x.table) (type a) q.0) may p.has there_seen h in
-          append_settles x said g line rest y home from more has good.memory.bytes (location_at g.call.temps p.there) h.long h.block there to
-          (none_temps x behind line rest good to (no_type (value_type x g line rest y to) r.given))
+          let next : List WordInstr = code_next x g line rest y in
+          let l : Location = location_at g.call.temps p.there in
+          let h : IsHandleOf (load g.world l) = handle_of (load g.world l) handled in
+          let there_seen : is_seen g.world l ≡ true = subst (λ u. is_seen g.world (location_of u) ≡ true) (sym p.is) s1.0 in
+          let none = no_type (value_type x g line rest y to) r.given in
+          -- also in another memory, with other words for what comes between
+          let there : (v : Vars) (m : Memory) (good : IsGood x (starts (changed g rest g.call.temps v m g.words g.awaits g.world) line rest))
+          → HandleThere x (changed g rest g.call.temps v m g.words g.awaits g.world) line rest good good.memory.bytes l h.long h.block home
+          = λ v m good. text_there x (changed g rest g.call.temps v m g.words g.awaits g.world) line rest good t (type a) p.there t1.0
+          (text_looks (facts_in x.table) (type a) q.0) may p.has there_seen h in
+          let nothing_there : (v : Vars) (m : Memory) (good : IsGood x (starts (changed g rest g.call.temps v m g.words g.awaits g.world) line rest))
+          → SameTemps x (changed g rest g.call.temps v m g.words g.awaits g.world) line rest good (with_value to g.call.temps nothing)
+          = λ v m good. none_temps x (changed g rest g.call.temps v m g.words g.awaits g.world) line rest good to none in
+          let label : ℕ = label_before (map block_plain rest) in
+          let code_is : (d : Option TypeDef) → entry_at x.table b ≡ d
+          → code_here x g line rest y ≡ appended_code here (is_char d) label home (Some b) (operand here f) next
+          = λ d e. ap (λ i. appended_code here (is_char i) label home (Some b) (operand here f) next) e in
+          elim (said.joined b q.1) [
+            | inl text ↦
+                let from : Place = text_home here RIGHT_HANDLE_AT (Some b) (operand here f) in
+                let k : List WordInstr = append_code home from next in
+                let has : HasHandleAt x said g line rest y RIGHT_HANDLE_AT (code_here x g line rest y) k from more
+                = subst (λ ls. HasHandleAt x said g line rest y RIGHT_HANDLE_AT ls k from more) (sym (code_is (Some D.Text) text))
+                (operand_has x said texts g line rest y RIGHT_HANDLE_AT (omega arith) (omega arith) (omega arith) k b w s2.0 f have.1.0 t2.0 (inl text)
+                l2.0) in
+                let good : IsGood x (starts (then_at x said g line rest y (code_here x g line rest y) next home from more has) line rest)
+                = then_good x said g line rest y (code_here x g line rest y) next home from more has in
+                append_settles x said g line rest y to l more home from has good.memory.bytes h.long h.block (there has.vars has.memory good)
+                (nothing_there has.vars has.memory good)
+            | inr char ↦
+                let s : IsLetter x said texts g line rest y f more
+                = letter_from x said texts g line rest y RIGHT_HANDLE_AT (omega arith) (omega arith) (omega arith) [] b w s2.0 f have.1.0 t2.0 char.0 char.1
+                l2.0 in
+                subst (AppendSettles x said g line rest y to l) s.is
+                (letter_settles x said g line rest y l h.long h.block home there
+                (text_there x g line rest y t (type a) p.there t1.0 (text_looks (facts_in x.table) (type a) q.0) may p.has there_seen h)
+                s.letter (variable_of (operand here f)) s.small s.high s.word_is to nothing_there (none_temps x g line rest y to none) label
+                (own_label_here x.table x.blocks (body_of g) line rest y.stands)
+                (own_label_at x.table x.blocks (body_of g) 1 line rest y.stands (omega arith)) (code_is (Some D.Char) char.0))
+          ]
 
       -- what nobody owns can't be changed
       append_by : (p : IsAtPlace (g.call.temps.places t) (λ there. At (location_at g.call.temps there)) z) (b : Bool)

@@ -162,7 +162,11 @@ module _ (x : Around) where
   row_weighs (O.Update operator) label ty of to hs k = update_weighs label operator hs k
   row_weighs O.Add label ty of to hs k = add_weighs x (lines.operand_at hs 0).home (owned.size_in x (lines.operand_at hs 0)) (lines.operand_at hs 1) k
   row_weighs O.Append label ty of to hs k =
-      append_weighs x (owned.type_of of 1) (lines.operand_at hs 1) (lines.operand_at hs 0).home (owned.right_of x of hs) k
+      let letter : Bool = owned.is_char (owned.entry_of x.table (owned.type_of of 1)) in
+      let home : Home = (lines.operand_at hs 0).home in
+      let from : Housed = lines.operand_at hs 1 in
+      enough_weighs 2 hs (owned.appended_code x letter label home (owned.type_of of 1) from k) k 12 8
+      (append_weighs x letter label home (owned.type_of of 1) from k)
   row_weighs O.SetLength label ty of to hs k =
       let there : Housed = lines.operand_at hs 0 in
       let n : ℕ = lines.variable_of (lines.operand_at hs 1) in
@@ -263,10 +267,13 @@ module _ (x : Around) where
   hook_weighs : (hook : Hook) (ty : ℕ) (to from : Home) (k : List WordInstr) → length (lines.hook_code x hook ty to from k) ≤ 5 + length k
   hook_weighs hook ty to from k = omega arith
 
-  got_weighs : (hooks : Bool) (ty : Option ℕ) (to from : Housed) (k : List WordInstr) → length (lines.got_code x hooks ty to from k) ≤ 7 + length k
-  got_weighs true (Some ty) to from k = let h = hook_weighs Copies ty to.home from.home k in omega (arith, h)
-  got_weighs true None to from k = moves_weigh to from k
-  got_weighs false ty to from k = moves_weigh to from k
+  got_weighs : (copied blank : Bool) (ty : Option ℕ) (to from : Housed) (k : List WordInstr)
+      → length (lines.got_code x copied blank ty to from k) ≤ 7 + length k
+  got_weighs true blank (Some ty) to from k = let h = hook_weighs Copies ty to.home from.home k in omega (arith, h)
+  got_weighs true true None to from k = let h = clears_weigh to k in omega (arith, h)
+  got_weighs true false None to from k = moves_weigh to from k
+  got_weighs false true ty to from k = let h = clears_weigh to k in omega (arith, h)
+  got_weighs false false ty to from k = moves_weigh to from k
 
   assigned_weighs : (hooks : Bool) (row : List WordInstr → List WordInstr) (ty : Option ℕ) (from : List From) (k : List WordInstr)
       → length (row k) ≤ 7 + length k → length (lines.assigned_code x hooks row ty from k) ≤ 7 + length k
@@ -346,13 +353,14 @@ module _ (x : Around) where
       let n = operands_length from in
       omega (arith, h, i, n)
   line_weighs (L.Constant to how ty pieces) label k =
-      let h = constant_weighs x (is_read how.how) pieces (lines.value x to) k in omega (arith, h)
+      let h = constant_weighs x (is_read how.how) (is_hooked x.table ty) ty pieces (lines.value x to) k in omega (arith, h)
   line_weighs (L.Call to how ty proc from) label k =
       let h = called_weighs (lines.layout_at x proc).runs label proc ty to (lines.operands x from) k in
       let n = operands_length from in
       omega (arith, h, n)
   line_weighs (L.Get to from how ty) label k =
-      let h = got_weighs (gives_hooked x.table ty && is_copied how.how) ty (lines.value x to) (lines.location x from) k in omega (arith, h)
+      let h = got_weighs (gives_hooked x.table ty && is_copied how.how) (lines.is_seen_blank x ty) ty (lines.value x to) (lines.location x from) k in
+      omega (arith, h)
   line_weighs (L.Look to from) label k = let h = moves_weigh (lines.value x to) (lines.location x from) k in omega (arith, h)
   line_weighs (L.Root to p global) label k = let h = root_weighs (lines.own_alias x to) (lines.led x to) (lines.place x p global).home k in omega (arith, h)
   line_weighs (L.Fresh to from waits) label k = omega arith

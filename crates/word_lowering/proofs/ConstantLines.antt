@@ -1,14 +1,13 @@
 -- Constants that are built: zeros, and then the words that are no zeros. What the line does is followed.
 use Rattle.std.proofs.Common.{Bool, ◌≡◌, inl, inr, ℕ, zero, suc, ◌+◌, ◌*◌, ◌%◌, ◌^◌, ◌<◌, ◌≤◌, List, [], ◌∷◌}
+use Rattle.word_lowering.specs.Stored.{is_hooked}
+use Rattle.word_lowering.proofs.ConstantFits.{FitsShape, constant_shape, constant_typed, plain_pieces}
 use Rattle.word_lowering.proofs.Options.{none_some}
 use Rattle.std.proofs.Common.{Some, None, Ok, ℤ, true, false, refl, sym, pos}
 use Rattle.std.proofs.Common.{ap, ap₂, subst, ◌∙◌, arith}
-use Rattle.std.proofs.lemmas.Bool.{and_parts}
-use Rattle.std.specs.Prelude.{◌&&◌}
 use Rattle.nim_types.specs.Forms.{or_word, form_of}
 use Rattle.nim_types.specs.Table.{facts_in, type_at}
 use Rattle.nim_types.specs.Types.{Ty}
-use Rattle.nim_program.specs.Kinds.{is_of}
 use Rattle.flat_code.specs.declared.line.UseAt.{UseAt}
 use Rattle.nim_meaning.specs.Values.{Value, Number, Parts, Handle, Fixed, Ref, Resource, Gone, Vacant, Values, Nil, More, bytes, bytes_all}
 use Rattle.nim_meaning.specs.Deeds.{Answers, costs, ◌>>=◌}
@@ -25,7 +24,7 @@ use Rattle.word_code.specs.declared.word.WordInstr.{WordInstr}
 use Rattle.word_code.specs.declared.word.WordInstr.TheVariants.{Constant, Store}
 use Rattle.word_code.specs.Memory.{Memory, number_at, with_number}
 use Rattle.word_code.specs.Words.{Vars, put}
-use Rattle.flat_code.specs.Pieces.{value_of, are_one, pieces_bytes, piece_words}
+use Rattle.flat_code.specs.Pieces.{value_of, pieces_bytes, piece_words}
 use Rattle.flat_code.specs.Shapes.{has_shape, shape_of}
 use Rattle.word_lowering.proofs.ShapeFacts.{of_numbers, values_of_numbers, number_numbers}
 use Rattle.word_code.proofs.ForCallers.{put_here, Changed, changed_word, Runs, then_runs, at as run_at, run_constant, run_store, got}
@@ -47,14 +46,14 @@ use Rattle.word_lowering.proofs.Arithmetic.{word_small}
 use Rattle.word_lowering.proofs.Clears.{zeros_by}
 use Rattle.word_lowering.proofs.ConstantWords.{number_constant}
 use Rattle.word_lowering.proofs.Moves.{ToVariable, address_runs, all_same, is_single, same_first, same_more, same_second}
-use Rattle.word_lowering.proofs.LineFits.{are_of, number_fits, single_is}
+use Rattle.word_lowering.proofs.LineFits.{number_fits, single_is}
 use Rattle.word_lowering.proofs.Sites.{InMemory, around}
 use Rattle.word_lowering.proofs.Scenes.{address_of, Points, of_value, house, IsThere, looked}
 use Rattle.word_lowering.proofs.Keeping.{spot_memory, points_there}
 use Rattle.word_lowering.proofs.Related.{Both, body_of, high, within}
-use Rattle.word_lowering.proofs.Lines.{Basis, Settles, all_procs, fits_here, known, starts, IsGood, all_sites, bound_for}
+use Rattle.word_lowering.proofs.Lines.{Basis, Settles, all_procs, known, starts, IsGood, all_sites, bound_for}
 use Rattle.word_lowering.proofs.ValueFacts.{value_plain, InWord, in_word}
-use Rattle.word_lowering.proofs.ControlLines.{FollowedHere, plain, value_type}
+use Rattle.word_lowering.proofs.ControlLines.{FollowedHere, plain}
 use Rattle.word_lowering.proofs.Sources.{Lying, lying_all, lying_area, lying_near, size_is, word_is, address_whole}
 use Rattle.word_lowering.proofs.Gets.{Gets, memory_kept, gets_word, gets_bytes, value_settles}
 use Rattle.word_lowering.proofs.PartRuns.{changed_same, changed_both, more_most, shifted_inside, shifted_address, Sofar}
@@ -205,11 +204,9 @@ module _ (x : Basis) (g : Both) (line : BlockLine) (rest : List BlockLine) (y : 
       word_before (word z) pieces small.0 small.1 (words_written pieces) home at_home a is low high by_four lines k most s blank
   words_written (P.Parts zero ∷ pieces) small home at_home a is low high by_four lines k most s blank =
       word_before 0 pieces small.0 small.1 (words_written pieces) home at_home a is low high by_four lines k most s blank
-  words_written (P.Elements zero ∷ pieces) small home at_home a is low high by_four lines k most s blank =
-      word_before 0 pieces small.0 small.1 (words_written pieces) home at_home a is low high by_four lines k most s blank
   words_written (P.Parts (suc n) ∷ pieces) small home at_home a is low high by_four lines k most s blank =
       words_written pieces small home at_home a is low high by_four lines k most s blank
-  words_written (P.Elements (suc n) ∷ pieces) small home at_home a is low high by_four lines k most s blank =
+  words_written (P.Elements n ∷ pieces) small home at_home a is low high by_four lines k most s blank =
       words_written pieces small home at_home a is low high by_four lines k most s blank
   words_written (P.Text text ∷ pieces) small home at_home a is low high by_four lines k most s blank =
       words_written pieces small home at_home a is low high by_four lines k most s blank
@@ -333,26 +330,25 @@ module _ (x : Basis) (labels : LabelsLead x) (g : Both) (rest : List BlockLine) 
       let line = plain (L.Constant to how ty pieces) in
       let to_type : Ty = type_at (known x).types ty in
       let v : Value = value_of pieces in
-      let one_shaped = has_shape v (shape_of (facts_in x.table) to_type) in
-      let f = and_parts (are_one pieces 0 && one_shaped) _
-      (fits_here x.table x.blocks (body_of g) line rest y.stands) in
-      let p = and_parts (are_one pieces 0) one_shaped f.0 in
-      let u = are_of (value_type x g line rest y to) (Some to_type) (and_parts (is_of (value_type x g line rest y to) (Some to_type)) _ f.1).0 in
-      let t = target x g line rest y to to_type refl (no_alias (is_read how.how) (texts_behind x g line rest y)) (u.is ∙ sym u.is_other) names.0 in
+      let s = shape_of (facts_in x.table) to_type in
+      let f : FitsShape s pieces = constant_shape x g rest to how ty pieces y in
+      let typed = constant_typed x g rest to how ty pieces y in
+      let t = target x g line rest y to to_type refl (no_alias (is_read how.how) (texts_behind x g line rest y)) typed names.0 in
       subst (λ b. Settles x (starts g line rest) rest (gives (scene_of (high x.table x.blocks (starts g line rest))) to
       (costs 1 (constant_for b (form_of (facts_in x.table) to_type) (pieces_bytes pieces) v) >>= made_by b (bound_for g how)))) (sym t.unhooked)
       (subst (λ n. Settles x (starts g line rest) rest (Passes (Answers [] (1 + (n + 0)) (with_value to g.call.temps v) g.world))) (sym long)
-      (built_settles x g line rest y to t.there pieces v (words_are pieces p.0) (values_of_numbers v (shape_of (facts_in x.table) to_type) t.numbers p.1)
-      (ap of_numbers t.look ∙ t.numbers) (subst (λ s. has_shape v s ≡ true) (sym t.look) p.1)
-      (code_is (is_read how.how) (around x.table x.blocks (body_of g)) (house g.call.site (of_value to)) (code_next x g line rest y))))
+      (built_settles x g line rest y to t.there pieces v (words_are pieces (plain_pieces s pieces t.numbers f) f.one)
+      (values_of_numbers v s t.numbers f.shaped) (ap of_numbers t.look ∙ t.numbers) (subst (λ s. has_shape v s ≡ true) (sym t.look) f.shaped)
+      (code_is (is_read how.how) (is_hooked x.table ty) (x.hooks ty ∙ t.unhooked) (around x.table x.blocks (body_of g)) (house g.call.site (of_value to))
+      (code_next x g line rest y))))
     where
       no_alias : (read : Bool) (n : ℕ) → text_alias read n (text_in pieces) ≡ alias.Own
       no_alias read n = ap (text_alias read n) no_text
 
-      code_is : (read : Bool) (a : Around) (h : Housed) (k : List WordInstr)
-          → constant_by a read (text_in pieces) h pieces k ≡ constant_at h (spot_of h) pieces k
-      code_is false a h k = ap (λ o. constant_by a false o h pieces k) no_text
-      code_is true a h k = ap (λ o. constant_by a true o h pieces k) no_text
+      code_is : (read hooked : Bool) → hooked ≡ false → (a : Around) (h : Housed) (k : List WordInstr)
+          → constant_by a read hooked (text_in pieces) ty h pieces k ≡ constant_at h (spot_of h) pieces k
+      code_is false hooked e a h k = ap₂ (λ b o. constant_by a false b o ty h pieces k) e no_text
+      code_is true hooked e a h k = ap₂ (λ b o. constant_by a true b o ty h pieces k) e no_text
 
   -- one that is no text
   pub constant_line : (pieces : List Piece) → text_in pieces ≡ None → FollowedHere x labels g rest (L.Constant to how ty pieces)

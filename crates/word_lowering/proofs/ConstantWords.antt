@@ -18,23 +18,23 @@ use Rattle.word_code.specs.declared.word.WordInstr.TheVariants.{Constant}
 use Rattle.word_lowering.specs.declared.homes.Alias.{Alias}
 use Rattle.word_lowering.specs.declared.homes.Alias.TheVariants as alias
 use Rattle.word_lowering.specs.Aliases.{is_read, text_alias, texts_of, text_of}
+use Rattle.word_lowering.specs.Stored.{is_hooked}
+use Rattle.word_lowering.proofs.ConstantFits.{constant_shape, constant_typed}
 use Rattle.word_lowering.proofs.HeapKept.{heap_same}
 use Rattle.word_lowering.proofs.Keeping.{nowhere, own_text, Kept, New, call, value_no_location, value_no_place, worlds_same, value_no_waiting}
 use Rattle.word_lowering.specs.MayLower.{same_alias}
 use Rattle.word_lowering.specs.Operations.{word}
-use Rattle.word_lowering.specs.LineCode.{constant_at, constant_by}
+use Rattle.word_lowering.specs.LineCode.{constant_at, constant_by, built_code}
 use Rattle.word_lowering.specs.OwnedCode.{lent_text_code}
 use Rattle.flat_code.specs.Lines.{gives}
 use Rattle.flat_code.specs.Running.{scene_of}
 use Rattle.nim_meaning.specs.Deeds.{costs, ◌>>=◌, Answers}
 use Rattle.nim_meaning.specs.Places.{made_by}
-use Rattle.nim_program.specs.Kinds.{is_of}
 use Rattle.nim_program.specs.declared.operation.Use.{Use}
 use Rattle.flat_code.specs.declared.line.UseAt.{UseAt}
-use Rattle.word_lowering.proofs.ControlLines.{FollowedHere, plain, value_type}
-use Rattle.word_lowering.proofs.LineFits.{are_of}
+use Rattle.word_lowering.proofs.ControlLines.{FollowedHere, plain}
 use Rattle.word_lowering.proofs.DistinctTexts.{has_behind}
-use Rattle.word_lowering.proofs.Lines.{Basis, Settles, all_procs, fits_here, known, starts, IsGood, all_sites, changed, good_changed, stands_next, bound_for}
+use Rattle.word_lowering.proofs.Lines.{Basis, Settles, all_procs, known, starts, IsGood, all_sites, changed, good_changed, stands_next, bound_for}
 use Rattle.word_lowering.proofs.Lines.{stays_on, waits_below}
 use Rattle.word_lowering.proofs.NumberLines.{constant_given, getting, variable}
 use Rattle.word_lowering.proofs.OperationRuns.{Given}
@@ -120,15 +120,15 @@ module _ (x : Basis) (labels : LabelsLead x) (g : Both) (rest : List BlockLine) 
   pub number_constant : (z : ℤ) → FollowedHere x labels g rest (L.Constant to how ty (P.Ordinal z ∷ []))
   number_constant z names y =
       let line = plain (L.Constant to how ty (P.Ordinal z ∷ [])) in
-      let f = and_parts (has_shape (Number z) (shape_of (facts_in x.table) to_type)) _
-      (fits_here x.table x.blocks (body_of g) line rest y.stands) in
-      let v = are_of (value_type x g line rest y to) (Some to_type) (and_parts (is_of (value_type x g line rest y to) (Some to_type)) _ f.1).0 in
-      let t = target x g line rest y to to_type refl refl (v.is ∙ sym v.is_other) names.0 in
-      let s = number_of_shape z (shape_of (facts_in x.table) to_type) f.0 in
-      let n = getting x g line rest y to to_type s.0 z t s.1 (subst (λ k. has_shape (Number z) k ≡ true) s.1 f.0) in
+      let f = (constant_shape x g rest to how ty (P.Ordinal z ∷ []) y).shaped in
+      let t = target x g line rest y to to_type refl refl (constant_typed x g rest to how ty (P.Ordinal z ∷ []) y) names.0 in
+      let s = number_of_shape z (shape_of (facts_in x.table) to_type) f in
+      let n = getting x g line rest y to to_type s.0 z t s.1 (subst (λ k. has_shape (Number z) k ≡ true) s.1 f) in
       let w = in_word x g.call.site to y.linked.0 n.there n.one in
       let code : code_here x g line rest y ≡ Constant (variable x g line rest y to) (word z) ∷ code_next x g line rest y
-      = ap (λ p. constant_at (house g.call.site (of_value to)) p (P.Ordinal z ∷ []) (code_next x g line rest y)) w.spot
+      = ap (λ h. built_code (around x.table x.blocks (body_of g)) h ty (house g.call.site (of_value to)) (P.Ordinal z ∷ []) (code_next x g line rest y))
+      (x.hooks ty ∙ t.unhooked)
+      ∙ ap (λ p. constant_at (house g.call.site (of_value to)) p (P.Ordinal z ∷ []) (code_next x g line rest y)) w.spot
       ∙ ap (λ u. Constant u (word z) ∷ code_next x g line rest y) (sym w.is) in
       subst (λ b. Settles x (starts g line rest) rest (gives (scene_of (high x.table x.blocks (starts g line rest))) to
       (costs 1 (constant_for b (form_of (facts_in x.table) to_type) 0 (Number z)) >>= made_by b (bound_for g how)))) (sym t.unhooked)
@@ -214,7 +214,8 @@ module _ (x : Basis) (labels : LabelsLead x) (g : Both) (rest : List BlockLine) 
       text_named =
           stays_on x (starts g naming rest) (changed g rest text_temps g.call.vars g.memory g.words g.awaits g.world) rest good_text 1 text_temps g.world
           (sym (ap (λ b. at (within x.table x.blocks g) g.memory
-          (constant_by (around x.table x.blocks (body_of g)) b (Some text) (house g.call.site (of_value to)) (P.Text text ∷ []) (code_next x g naming rest y))
+          (constant_by (around x.table x.blocks (body_of g)) b (is_hooked x.table ty) (Some text) ty (house g.call.site (of_value to)) (P.Text text ∷ [])
+          (code_next x g naming rest y))
           g.call.vars g.words) read
           ∙ ap (λ a. at (within x.table x.blocks g) g.memory
           (lent_text_code (around x.table x.blocks (body_of g)) a (house g.call.site (of_value to)).home text (code_next x g naming rest y))

@@ -18,7 +18,7 @@ use Rattle.flat_code.specs.Codes.{block_plain}
 use Rattle.flat_code.specs.Fits.{start_places}
 use Rattle.flat_code.specs.Running.{last_of}
 use Rattle.flat_code.specs.Scene.{known_in}
-use Rattle.flat_code.specs.Sizes.{distinct_texts, global_bytes, globals_bytes, handled_bytes, members_bytes, names_bytes, data_bytes}
+use Rattle.flat_code.specs.Sizes.{constants_bytes, distinct_texts, global_bytes, globals_bytes, handled_bytes, members_bytes, names_bytes, data_bytes}
 use Rattle.word_lowering.specs.declared.homes.Alias.{Alias}
 use Rattle.word_lowering.specs.declared.homes.Alias.TheVariants.{Own, Place, Value, Node, Text}
 use Rattle.word_lowering.specs.declared.homes.Free.{Free}
@@ -32,10 +32,12 @@ use Rattle.word_lowering.specs.Stored.{bytes_at}
 use Rattle.word_lowering.specs.Layouts.{all_housed, is_static, free_behind, free_by, bytes_by, place_kept, behind, behind_all, free_at, layouts, layout_of}
 use Rattle.word_lowering.specs.LineCode.{no_layout}
 use Rattle.word_lowering.specs.Lowered.{globals_end, data_of, lowered}
+use Rattle.word_lowering.specs.Linked.{laid_out}
 use Rattle.word_lowering.specs.Texts.{padded, fixed_texts, members_of, all_names, joined_all, starts_from, ends_from, texts_at, texts_from, data_at, data_in}
 use Rattle.word_lowering.specs.MayLower.{defs_may, labels_may, procs_may, may_lower}
 use Rattle.word_lowering.proofs.EntryNames.{joined_append}
-use Rattle.word_lowering.proofs.DistinctTexts.{laid_long, laid_most}
+use Rattle.word_lowering.proofs.DistinctTexts.{laid_long}
+use Rattle.word_lowering.proofs.LaidOut.{laid_within}
 use Rattle.word_lowering.proofs.Padding.{zeros_length, padded_whole, padded_most}
 use Rattle.word_lowering.proofs.WaiterHomes.{waiters_datum}
 
@@ -156,7 +158,8 @@ fixed_length : length fixed_texts ≡ 16
 fixed_length = refl
 
 data_length : (table : List TypeDef) (globals_end : ℕ) (procs : List (CodeProc BlockLine))
-    → length (data_in table globals_end procs) ≤ 27 + (globals_end - LEFT_HANDLE_AT) + (names_bytes table + handled_bytes (distinct_texts block_plain procs))
+    → length (data_in table globals_end procs) ≤ 27 + (globals_end - LEFT_HANDLE_AT) + (names_bytes table
+    + (handled_bytes (distinct_texts block_plain procs) + constants_bytes block_plain procs))
 data_length table globals_end procs =
     let names : List (List ℕ) = all_names table in
     let e = six_parts (replicate 4 0) fixed_texts (replicate (globals_end - LEFT_HANDLE_AT) 0) (ends_from 0 names) (padded (joined_all names))
@@ -164,8 +167,8 @@ data_length table globals_end procs =
     let f = zeros_length (globals_end - LEFT_HANDLE_AT) in
     let g = ends_length 0 names in
     let h = all_names_most table in
-    let i = laid_most (distinct_texts block_plain procs) in
-    let m = laid_long (data_at + texts_at table globals_end) (distinct_texts block_plain procs) in
+    let i = laid_within (data_at + texts_at table globals_end) procs in
+    let m = laid_long (data_at + texts_at table globals_end) (laid_out (data_at + texts_at table globals_end) procs) in
     let j = fixed_length in
     let k = zeros_length 4 in
     let l = padded_most (joined_all names) in

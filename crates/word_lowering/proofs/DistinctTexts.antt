@@ -1,5 +1,5 @@
 -- Distinct texts, and where they are laid out.
-use Rattle.std.proofs.Common.{◌≡◌, ◌∙◌, ◌⊎◌, inl, inr, ℕ, ◌+◌, ◌%◌, ◌≤◌, replicate, Bool, true, false, List, [], ◌∷◌, ◌++◌, length, Some, None, refl, sym}
+use Rattle.std.proofs.Common.{◌≡◌, ◌∙◌, ℕ, ◌+◌, ◌%◌, ◌≤◌, replicate, Bool, true, false, List, [], ◌∷◌, ◌++◌, length, Some, None, refl, sym}
 use Rattle.std.proofs.Common.{ap, ap₂, append_assoc, length-append, arith}
 use Rattle.std.specs.Prelude.{◌||◌}
 use Rattle.std.specs.List.{list_any}
@@ -40,14 +40,16 @@ any_same : (f g : List ℕ → Bool) → ((x : List ℕ) → f x ≡ g x) → (x
 any_same f g same [] = refl
 any_same f g same (x ∷ xs) = ap₂ (λ a b. a || b) (same x) (any_same f g same xs)
 
+pub has_same : (ys : List (List ℕ)) (q y : List ℕ) → same_text q y ≡ true → has ys q ≡ has ys y
+has_same ys q y e = any_same (same_text q) (same_text y) (λ z. nat_list_eq_equiv.congr q y z e) ys
+
 -- a text that is equal to one that is there
 has_again : (ys : List (List ℕ)) (y q : List ℕ) → has ys y ≡ true → has (y ∷ ys) q ≡ has ys q
 has_again ys y q is = by (same_text q y) refl
   where
     by : (b : Bool) → same_text q y ≡ b → (same_text q y || has ys q) ≡ has ys q
     by false e = ap (λ b. b || has ys q) e
-    by true e =
-        ap (λ b. b || has ys q) e ∙ sym (any_same (same_text q) (same_text y) (λ z. nat_list_eq_equiv.congr q y z e) ys ∙ is)
+    by true e = ap (λ b. b || has ys q) e ∙ sym (has_same ys q y e ∙ is)
 
 pub unique_has : (ys : List (List ℕ)) (q : List ℕ) → has (unique_keys same_text ys) q ≡ has ys q
 unique_has [] q = refl
@@ -149,51 +151,3 @@ nowhere (other ∷ texts) text h = by (same_text text other) refl (nowhere texts
     by false e later =
         cond-false (same_text text other) (Some (laid_length texts)) (place_among texts text) e
         ∙ later (ap (λ b. b || has texts text) (sym e) ∙ h)
-
--- ---- handles lie apart
-
-abbrev pub place_in : List (List ℕ) → List ℕ → ℕ
-place_in texts text = or_zero (place_among texts text)
-
-before_end : (texts : List (List ℕ)) (text : List ℕ) → has texts text ≡ true → place_in texts text + 8 ≤ laid_length texts
-before_end [] text h = absurd (both_ways false refl h)
-before_end (other ∷ texts) text h = by (same_text text other) refl (before_end texts text)
-  where
-    by : (b : Bool) → same_text text other ≡ b → (has texts text ≡ true → place_in texts text + 8 ≤ laid_length texts)
-        → place_in (other ∷ texts) text + 8 ≤ laid_length (other ∷ texts)
-    by true e later = let is = ap or_zero (cond-true (same_text text other) (Some (laid_length texts)) (place_among texts text) e) in omega (arith, is)
-    by false e later =
-        let is = ap or_zero (cond-false (same_text text other) (Some (laid_length texts)) (place_among texts text) e) in
-        let least = later (ap (λ b. b || has texts text) (sym e) ∙ h) in
-        omega (arith, is, least)
-
-pub handles_apart : (texts : List (List ℕ)) (s t : List ℕ) → has texts s ≡ true → has texts t ≡ true
-    → (s ≡ t) ⊎ ((place_in texts s + 8 ≤ place_in texts t) ⊎ (place_in texts t + 8 ≤ place_in texts s))
-handles_apart [] s t h i = absurd (both_ways false refl h)
-handles_apart (other ∷ texts) s t h i = by (same_text s other) (same_text t other) refl refl (handles_apart texts s t)
-  where
-    here : (text : List ℕ) → same_text text other ≡ true → place_in (other ∷ texts) text ≡ laid_length texts
-    here text e = ap or_zero (cond-true (same_text text other) (Some (laid_length texts)) (place_among texts text) e)
-
-    behind : (text : List ℕ) → same_text text other ≡ false → place_in (other ∷ texts) text ≡ place_in texts text
-    behind text e = ap or_zero (cond-false (same_text text other) (Some (laid_length texts)) (place_among texts text) e)
-
-    further : (text : List ℕ) → same_text text other ≡ false → has (other ∷ texts) text ≡ true → has texts text ≡ true
-    further text e h = ap (λ b. b || has texts text) (sym e) ∙ h
-
-    by : (a b : Bool) → same_text s other ≡ a → same_text t other ≡ b
-        → (has texts s ≡ true → has texts t ≡ true → (s ≡ t) ⊎ ((place_in texts s + 8 ≤ place_in texts t)
-        ⊎ (place_in texts t + 8 ≤ place_in texts s)))
-        → (s ≡ t) ⊎ ((place_in (other ∷ texts) s + 8 ≤ place_in (other ∷ texts) t) ⊎ (place_in (other ∷ texts) t + 8 ≤ place_in (other ∷ texts) s))
-    by true true e f later = inl ((bytes_eq-Decides s other).0 e ∙ sym ((bytes_eq-Decides t other).0 f))
-    by true false e f later =
-        let p = here s e in let q = behind t f in let r = before_end texts t (further t f i) in inr (inr (omega (arith, p, q, r)))
-    by false true e f later =
-        let p = behind s e in let q = here t f in let r = before_end texts s (further s e h) in inr (inl (omega (arith, p, q, r)))
-    by false false e f later = rest (later (further s e h) (further t f i))
-      where
-        rest : (s ≡ t) ⊎ ((place_in texts s + 8 ≤ place_in texts t) ⊎ (place_in texts t + 8 ≤ place_in texts s))
-            → (s ≡ t) ⊎ ((place_in (other ∷ texts) s + 8 ≤ place_in (other ∷ texts) t) ⊎ (place_in (other ∷ texts) t + 8 ≤ place_in (other ∷ texts) s))
-        rest (inl same) = inl same
-        rest (inr (inl less)) = let p = behind s e in let q = behind t f in inr (inl (omega (arith, p, q, less)))
-        rest (inr (inr less)) = let p = behind s e in let q = behind t f in inr (inr (omega (arith, p, q, less)))

@@ -1,6 +1,8 @@
 -- Each line of block code is followed.
 use Rattle.nim_program.specs.declared.expr.Label.TheVariants as C
 use Rattle.flat_code.specs.Pieces.{are_one, is_one_text, value_of}
+use Rattle.word_lowering.proofs.ConstantFits.{constant_typed}
+use Rattle.word_lowering.proofs.LinkedConstants.{linked_whole}
 use Rattle.word_lowering.proofs.PassedOn.{pass_hooked}
 use Rattle.word_lowering.proofs.HookedConstruct.{construct_whole}
 use Rattle.word_lowering.proofs.HouseHooks.{gives_as, homed, hooks_as, hooks_numbers, hooks_type, plain_as, plain_operands, plain_typed, plain_value}
@@ -196,11 +198,6 @@ module _ (x : Basis) (labels : LabelsLead x) (traps : TrapsStop x) (own : OwnLab
           (as_row x labels g rest to how ty of from operation n.0 (row_followed operation g rest to how ty of from n.0 other)
           (plain_value x g.call.site y.linked.0 to given f.1 n.1, plain_operands x g.call.site y.linked.0 of from typed.0 n.0) y)
 
-  -- what isn't one text has no hooks
-  no_one : (pieces : List Piece) → text_in pieces ≡ None → (b : Bool) → (is_one_text pieces || b) ≡ true → b ≡ true
-  no_one (P.Text text ∷ []) e b h = absurd (none_some text (sym e))
-  no_one pieces e b h = h
-
   constant_whole : (g : Both) (rest : List BlockLine) (to : ℕ) (how : UseAt) (ty : ℕ) (pieces : List Piece) →
       Whole x g rest (plain (L.Constant to how ty pieces))
   constant_whole g rest to how ty pieces y = by (text_in pieces) refl (gives_hooked facts (Some (type_at (known x).types ty))) refl
@@ -211,19 +208,13 @@ module _ (x : Basis) (labels : LabelsLead x) (traps : TrapsStop x) (own : OwnLab
       by : (o : Option (List ℕ)) → text_in pieces ≡ o → (b : Bool) → gives_hooked facts (Some (type_at (known x).types ty)) ≡ b
           → Completes x (starts g line rest) rest (block_does (known x) (scene_of (high x.table x.blocks (starts g line rest))) line)
       by (Some text) e b h = literal_whole x labels said texts g rest to how ty pieces text e y
-      by None e true h =
-          let f = and_parts _ _ (fits_here x.table x.blocks (body_of g) line rest y.stands) in
-          let n = (and_parts (is_of (type_in x is_value (body_of g) to) (Some (type_at (known x).types ty))) _ f.1).1 in
-          never (sym (ap not h) ∙ no_one pieces e (not (is_hooked facts (type_at (known x).types ty))) n)
+      by None e true h = linked_whole x b texts g rest to how ty pieces y e h
       by None e false h =
-          let f = and_parts _ _ (fits_here x.table x.blocks (body_of g) line rest y.stands) in
-          let v = are_of (type_in x is_value (body_of g) to) (Some (type_at (known x).types ty))
-          (and_parts (is_of (type_in x is_value (body_of g) to) (Some (type_at (known x).types ty))) _ f.1).0 in
           completes_quiet x g line rest (block_does (known x) (scene_of (high x.table x.blocks (starts g line rest))) line)
           (ap (λ b. b && constant_waits pieces how.how) (x.hooks ty ∙ h))
           (constant_line x labels g rest to how ty pieces e (
             plain_as x g.call.site y.linked.0 (of_value to) (type_at (known x).types ty)
-                (v.is ∙ sym v.is_other) h,
+                (constant_typed x g rest to how ty pieces y) h,
             tt,
           ) y)
 
@@ -282,7 +273,9 @@ module _ (x : Basis) (labels : LabelsLead x) (traps : TrapsStop x) (own : OwnLab
       line = plain (L.Look to from)
 
       f : AreOf (type_in x is_value (body_of g) to) (type_in x is_location (body_of g) from)
-      f = are_of (type_in x is_value (body_of g) to) (type_in x is_location (body_of g) from) (fits_here x.table x.blocks (body_of g) line rest y.stands)
+      f = are_of (type_in x is_value (body_of g) to) (type_in x is_location (body_of g) from)
+          (and_parts (is_of (type_in x is_value (body_of g) to) (type_in x is_location (body_of g) from)) _
+          (fits_here x.table x.blocks (body_of g) line rest y.stands)).0
 
       by : (b : Bool) → hooked (form_of facts f.ty) ≡ b
           → Settles x (starts g line rest) rest (block_does (known x) (scene_of (high x.table x.blocks (starts g line rest))) line)
@@ -298,37 +291,10 @@ module _ (x : Basis) (labels : LabelsLead x) (traps : TrapsStop x) (own : OwnLab
   standing_whole : (g : Both) (rest : List BlockLine) (to ty : ℕ) (pieces : List Piece) → Whole x g rest (plain (L.Standing to ty pieces))
   standing_whole g rest to ty pieces y =
       completes_quiet x g line rest (block_does (known x) (scene_of (high x.table x.blocks (starts g line rest))) line) refl
-      (standing_line x labels texts g rest to ty pieces y (by (is_one_text pieces) (gives_hooked facts (Some own_ty)) refl refl n))
+      (standing_line x labels texts g rest to ty pieces y)
     where
       line : BlockLine
       line = plain (L.Standing to ty pieces)
-
-      own_ty : Ty
-      own_ty = type_at (known x).types ty
-
-      typed : Bool
-      typed = is_of (type_in x is_location (body_of g) to) (Some own_ty)
-
-      read_only : Bool
-      read_only = not (if_kind is_standing (place_named is_location (body_of g).proc.places to))
-
-      p : (typed ≡ true) × ((read_only && (is_one_text pieces || not (is_hooked facts own_ty))) ≡ true)
-      p =
-          and_parts typed (read_only && (is_one_text pieces || not (is_hooked facts own_ty)))
-          (and_parts (are_one pieces 0 && has_shape (value_of pieces) (shape_of facts own_ty))
-          (typed && (read_only && (is_one_text pieces || not (is_hooked facts own_ty)))) (fits_here x.table x.blocks (body_of g) line rest y.stands)).1
-
-      n : (is_one_text pieces || not (is_hooked facts own_ty)) ≡ true
-      n = (and_parts read_only (is_one_text pieces || not (is_hooked facts own_ty)) p.1).1
-
-      -- a text, or what has no hooks
-      by : (one hooks : Bool) → is_one_text pieces ≡ one → gives_hooked facts (Some own_ty) ≡ hooks → (one || not hooks) ≡ true
-          → (is_one_text pieces ≡ true) ⊎ IsPlain x g.call.site (of_location to)
-      by true hooks is e h = inl is
-      by false false is e h =
-          let v = are_of (type_in x is_location (body_of g) to) (Some own_ty) p.0 in
-          inr (plain_as x g.call.site y.linked.0 (of_location to) own_ty (v.is ∙ sym v.is_other) e)
-      by false true is e h = never h
 
   -- the kind of a location is that of its word in the table
   location_word : (kind : PlaceKind) (w : Bool) → is_location kind ≡ true → word_by kind w ≡ w

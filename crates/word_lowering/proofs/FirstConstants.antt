@@ -4,21 +4,17 @@ use Rattle.std.proofs.Common.{subst}
 use Rattle.std.proofs.Common.{◌∙◌, arith, append_assoc, length-append}
 use Rattle.std.specs.Int.{w32, to_le_bytes}
 use Rattle.std.specs.Prelude.{◌==◌, zero, suc}
-use Rattle.std.specs.Set.{is_member}
 use Rattle.std.proofs.lemmas.Bool.{eq-eqb, cond-true}
 use Rattle.rv32_isa.specs.declared.micro_op.Size.TheVariants.{Word}
 use Rattle.rv32_isa.specs.declared.machine.FaultKind.TheVariants.{Misaligned}
 use Rattle.rv32_isa.specs.Words.{word_bytes}
 use Rattle.rv32_isa.specs.Steps.{number_of}
 use Rattle.rv32_isa.proofs.ForCallers.{length-word_bytes, little-word_bytes}
-use Rattle.nim_types.specs.Types.{same_text}
 use Rattle.nim_types.specs.declared.types.TypeDef.{TypeDef}
 use Rattle.flat_code.specs.declared.block.BlockLine.{BlockLine}
 use Rattle.flat_code.specs.declared.code.Code.{Code}
 use Rattle.flat_code.specs.declared.line.Piece.{Piece}
-use Rattle.flat_code.specs.Codes.{block_plain}
 use Rattle.flat_code.specs.Pieces.{piece_words, words_bytes, standing_bytes}
-use Rattle.flat_code.specs.Sizes.{code_texts}
 use Rattle.word_code.specs.Memory.{Memory, number_at, bytes_at}
 use Rattle.word_code.specs.RoutineTable.{Cell}
 use Rattle.word_lowering.specs.declared.texts.TheConstants.{FIXED_BYTES}
@@ -31,11 +27,9 @@ use Rattle.word_lowering.proofs.LaidData.{LaidAt, TextAlone, laid_at, laid_there
 use Rattle.word_lowering.proofs.PieceWords.{WordsAt, room_of}
 use Rattle.word_lowering.proofs.Related.{HandleThere, StandThere, StandsThere}
 use Rattle.word_lowering.proofs.Scenes.{handle_from, text_from}
+use Rattle.word_lowering.proofs.Sites.{IsLaidOut}
 use Rattle.word_lowering.proofs.SmallWords.{AllSmall}
-
-little_bytes : (w : ℕ) → to_le_bytes w32 w ≡ word_bytes w
-unfolding word_bytes
-little_bytes w = refl
+use Rattle.word_lowering.proofs.WordsBytes.{little_bytes}
 
 words_length : (ws : List ℕ) → length (words_bytes ws) ≡ room_of ws
 words_length [] = refl
@@ -129,7 +123,7 @@ module _ (table : List TypeDef) (blocks : Code BlockLine) (runtime : Runtimes) (
     -- ---- constants
 
     pub constant_first : (pieces : List Piece) → AllSmall (piece_words pieces)
-        → is_member same_text (code_texts block_plain blocks.procs) (standing_bytes pieces) ≡ true → StandsThere table blocks start pieces
+        → IsLaidOut table blocks (standing_bytes pieces) → StandsThere table blocks start pieces
     constant_first pieces small among =
         let text : List ℕ = standing_bytes pieces in
         let l : TextAlone table blocks text = text_alone table blocks text (laid_there table blocks runtime heap stack least even most text among) in
@@ -153,7 +147,7 @@ module _ (table : List TypeDef) (blocks : Code BlockLine) (runtime : Runtimes) (
 
     -- ---- handles of texts
 
-    handle_first : (text : List ℕ) → is_member same_text (code_texts block_plain blocks.procs) text ≡ true
+    handle_first : (text : List ℕ) → IsLaidOut table blocks text
         → StandThere table blocks start (handle_from table blocks text) (length text ∷ text_from table blocks text ∷ [])
     handle_first text among =
         let l : LaidAt table blocks text = laid_there table blocks runtime heap stack least even most text among in
@@ -194,23 +188,37 @@ module _ (table : List TypeDef) (blocks : Code BlockLine) (runtime : Runtimes) (
     text_reads (c ∷ text) from within stands =
         own_reads table blocks runtime heap stack from (length (c ∷ text)) (omega arith) within ∙ ap Some stands
 
-    pub text_first : (text : List ℕ) → is_member same_text (code_texts block_plain blocks.procs) text ≡ true → HandleThere table blocks start text
+    -- what stands in the data is read there
+    stands_at : (before bytes after : List ℕ) → own table blocks ≡ before ++ (bytes ++ after)
+        → bytes_at start (data_at + length before) (length bytes) ≡ Some bytes
+    stands_at before bytes after is =
+        let n0 = ap length is in
+        let n1 = length-append before (bytes ++ after) in
+        let n2 = length-append bytes after in
+        let none : length before ≡ length before + 0 = omega arith in
+        text_reads bytes (length before) (omega (arith, n0, n1, n2))
+        (ap₂ (λ j k. take (length bytes) (drop j k)) none is ∙ ap (take (length bytes)) (drop_past before (bytes ++ after) 0) ∙ take_front bytes after)
+
+    pub text_first : (text : List ℕ) → IsLaidOut table blocks text → HandleThere table blocks start text
     text_first text among =
-        let l : TextAlone table blocks text = text_alone table blocks text (laid_there table blocks runtime heap stack least even most text among) in
+        let h : LaidAt table blocks text = laid_there table blocks runtime heap stack least even most text among in
+        let l : TextAlone table blocks text = text_alone table blocks text h in
         let from : ℕ = laid_at table blocks text in
+        let ws : List ℕ = length text ∷ (data_at + from) ∷ [] in
         let at = l.at in
         let behind_globals = l.behind_globals in
+        let low = h.behind_globals in
         let n0 = ap length l.whole in
         let n1 = length-append l.before (text ++ l.after) in
         let n2 = length-append text l.after in
-        let place : from ≡ length l.before + 0 = omega (arith, at) in
-        let stands : take (length text) (drop from (own table blocks)) ≡ text
-        = ap₂ (λ j k. take (length text) (drop j k)) place l.whole
-        ∙ ap (take (length text)) (drop_past l.before (text ++ l.after) 0) ∙ take_front text l.after in
         record {
           handle = handle_first text among;
-          behind = let h = (laid_there table blocks runtime heap stack least even most text among).behind_globals in omega (arith, h, least);
+          above = omega (arith, low);
+          handle_reads = subst (λ n. bytes_at start (data_at + n) (length (words_bytes ws)) ≡ Some (words_bytes ws)) h.at
+              (stands_at h.before (words_bytes ws) (text ++ h.after)
+              (h.whole ∙ ap (λ k. h.before ++ k) (sym (handle_bytes (length text) (data_at + from) (text ++ h.after)))));
+          behind = omega (arith, low, least);
           low = omega (arith, behind_globals);
           high = omega (arith, at, n0, n1, n2);
-          reads = text_reads text from (omega (arith, at, n0, n1, n2)) stands;
+          reads = subst (λ n. bytes_at start (data_at + n) (length text) ≡ Some text) l.at (stands_at l.before text l.after l.whole);
         }

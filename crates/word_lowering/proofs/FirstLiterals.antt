@@ -17,6 +17,8 @@ use Rattle.word_lowering.proofs.Related.{is_text_of_data}
 use Rattle.word_lowering.proofs.FirstMemory.{drop_past, first_memory, own, globals}
 use Rattle.word_lowering.proofs.FirstNames.{take_front}
 use Rattle.word_lowering.proofs.FirstTexts.{text_bytes}
+use Rattle.word_lowering.proofs.LaidOut.{among_laid}
+use Rattle.word_lowering.proofs.Sites.{laid_from}
 use Rattle.word_lowering.proofs.LaidData.{laid_at, laid_there, text_alone}
 use Rattle.word_lowering.proofs.Lines.{Basis}
 use Rattle.word_lowering.proofs.TextLines.{TextAt}
@@ -25,9 +27,10 @@ module _ (x : Basis) (heap stack : ℕ) (is : x.first ≡ first_memory (with_run
     (least : FIXED_BYTES ≤ globals x.table x.blocks) (whole : globals x.table x.blocks % 4 ≡ 0) (most : length (own x.table x.blocks) ≤ MOST_DATA) where
   -- a text of the code, where it is laid out
   pub text_there : (text : List ℕ) → is_member same_text (code_texts block_plain x.blocks.procs) text ≡ true
-      → TextAt x (texts_at x.table (globals x.table x.blocks) + text_place x.blocks.procs text) text
+      → TextAt x (texts_at x.table (globals x.table x.blocks) + text_place (laid_from x.table x.blocks) x.blocks.procs text) text
   text_there text among =
-      let there = text_alone x.table x.blocks text (laid_there x.table x.blocks x.runtimes heap stack least whole most text among) in
+      let there = text_alone x.table x.blocks text (laid_there x.table x.blocks x.runtimes heap stack least whole most text
+      (among_laid (laid_from x.table x.blocks) x.blocks.procs text among)) in
       let from : ℕ = laid_at x.table x.blocks text in
       let at = there.at in
       let behind_globals = there.behind_globals in
@@ -47,9 +50,11 @@ module _ (x : Basis) (heap stack : ℕ) (is : x.first ≡ first_memory (with_run
 
   -- nothing changes it
   pub text_fixed : (text : List ℕ) → is_member same_text (code_texts block_plain x.blocks.procs) text ≡ true → AreBytes text
-      → is_text_of_data x.table x.blocks x.first (data_at + (texts_at x.table (globals x.table x.blocks) + text_place x.blocks.procs text)) text ≡ true
+      → is_text_of_data x.table x.blocks x.first (data_at + (texts_at x.table (globals x.table x.blocks) + text_place (laid_from x.table x.blocks)
+      x.blocks.procs text)) text ≡ true
   text_fixed text among are =
-      let there = text_alone x.table x.blocks text (laid_there x.table x.blocks x.runtimes heap stack least whole most text among) in
+      let there = text_alone x.table x.blocks text (laid_there x.table x.blocks x.runtimes heap stack least whole most text
+      (among_laid (laid_from x.table x.blocks) x.blocks.procs text among)) in
       let from : ℕ = laid_at x.table x.blocks text in
       let at = there.at in
       let behind_globals = there.behind_globals in
@@ -61,6 +66,7 @@ module _ (x : Basis) (heap stack : ℕ) (is : x.first ≡ first_memory (with_run
   -- one which stands at this offset in it
   pub literal_there : (offset : ℕ) (text : List ℕ) → take (length text) (drop offset (texts_in x.blocks.procs)) ≡ text
       → is_member same_text (code_texts block_plain x.blocks.procs) text ≡ true
-      → TextAt x (texts_at x.table (globals x.table x.blocks) + place_of x.blocks.procs offset (length text)) text
+      → TextAt x (texts_at x.table (globals x.table x.blocks) + place_of (laid_from x.table x.blocks) x.blocks.procs offset (length text)) text
   literal_there offset text stands_so among =
-      subst (λ t. TextAt x (texts_at x.table (globals x.table x.blocks) + text_place x.blocks.procs t) text) (sym stands_so) (text_there text among)
+      subst (λ t. TextAt x (texts_at x.table (globals x.table x.blocks) + text_place (laid_from x.table x.blocks) x.blocks.procs t) text) (sym stands_so)
+      (text_there text among)

@@ -46,6 +46,8 @@ pub record IsFixedText (x : Basis) (place : ℕ) (text : List ℕ) : Type 0 wher
   pub bytes : AreBytes text
   pub near : place < 2 ^ 32
   pub few : length text < 2 ^ 32
+  pub low : data_at + data_end x.table x.blocks ≤ place
+  pub room : place + length text + 4 < 2 ^ 32
   pub among : IsText x.table x.blocks place (length text)
   pub first : bytes_at x.first place (length text) ≡ Some text
 
@@ -62,6 +64,8 @@ module _ (x : Basis) where
         bytes = bytes_are text c.0;
         near = omega (arith, high, most);
         few = omega (arith, high, most);
+        low = low;
+        room = omega (arith, high, most);
         among = (inr (low, omega (arith, high, most)), inl high);
         first = read_is (bytes_at x.first place (length text)) text c.1;
       }

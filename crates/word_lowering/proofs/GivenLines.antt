@@ -457,5 +457,5 @@ module _ (x : Basis) (g : Both) (line : BlockLine) (rest : List BlockLine) (y : 
           = subst (λ z. Leads x.table x.blocks sites g.ground g.world g.call.site g.call.temps z q.address (looked x.table g.call.site (of_location t))) l_is
           q.leads_to in
           located_argument t there address typed l l_is
-          (is_stood x.table x.blocks sites g.ground g.world l q.address (looked x.table g.call.site (of_location t)) (ap of_numbers p.look ∙ blocks_in) leads)
+          (is_stood x.table x.blocks sites g.ground g.world l q.address (looked x.table g.call.site (of_location t)) leads)
           (as_reached x g line rest y (location here t) there (looked x.table g.call.site (of_location t)) q)

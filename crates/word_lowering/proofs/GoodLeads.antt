@@ -1,11 +1,10 @@
 -- What a location leads to, in homes: a place that has a value of its own, or the value of a temporary; or in a block.
 use Rattle.std.proofs.Common.{◌≡◌, ◌⊎◌, inl, inr, ℕ, List, [], ◌∷◌, map, Some, None, true, false, refl, sym, subst, ◌∙◌, Option, ◌+◌, ap}
 use Rattle.std.proofs.lemmas.Bool.{cases_Bool}
-use Rattle.nim_meaning.specs.Values.{Value, Fixed, Standing, Made, Location, Holds, Vacant, part, Waiting, Stands, Lends, Slot}
+use Rattle.nim_meaning.specs.Values.{Value, Standing, Made, Location, Holds, Vacant, part, Waiting, Stands, Lends, Slot}
 use Rattle.nim_meaning.specs.State.{slot_at, temporary_at, awaited, whole_at, is_whole, load}
 use Rattle.flat_code.specs.Scene.{Temps}
-use Rattle.flat_code.specs.Pieces.{value_of}
-use Rattle.flat_code.specs.Shapes.{Shape, block, has_shape}
+use Rattle.flat_code.specs.Shapes.{Shape, has_shape}
 use Rattle.word_code.specs.Words.{Vars}
 use Rattle.word_lowering.specs.declared.texts.TheConstants.{FIXED_BYTES}
 use Rattle.word_lowering.specs.Layouts.{holds_address, owns}
@@ -15,8 +14,9 @@ use Rattle.word_lowering.proofs.Keeping.{AmongCalls, declared_address, waiting_i
 use Rattle.word_lowering.proofs.Lines.{Basis, IsGood}
 use Rattle.word_lowering.proofs.Related.{Both, calls_of, sites_of, store_of}
 use Rattle.word_lowering.proofs.Scenes.{is_fixed, address_of, of_value, of_place, Call, site_of, house, Filled, IsThere, looked, IsItem, FromOwned, FromPlace}
-use Rattle.word_lowering.proofs.Scenes.{FromLiteral, FromValue, of_waiting, SaysAt, Says, FromWaiting, FromWaits, LeadsHere, IsFixedText, IsOwned, IsStood}
-use Rattle.word_lowering.proofs.ShapeFacts.{never, of_numbers, values_of_numbers}
+use Rattle.word_lowering.proofs.Scenes.{FromData, FromLinked, FromValue, of_waiting, SaysAt, Says, FromWaiting, FromWaits, LeadsHere, IsMade, IsOwned}
+use Rattle.word_lowering.proofs.ShapeFacts.{never, of_numbers}
+use Rattle.word_lowering.proofs.ShapePaths.{path_numbers}
 use Rattle.word_lowering.proofs.Sites.{room, Housing, in_variable, by_address, in_places, in_data, InMemory, Site, AmongSites, data_end, Linked}
 use Rattle.word_lowering.proofs.SitesApart.{houses, site_at}
 
@@ -209,34 +209,22 @@ module _ (x : Basis) (g : Both) (y : IsGood x g) where
 
   -- ---- what is owned
 
-  no_text : (v : Value) (s : Shape) → of_numbers s ≡ true → has_shape v s ≡ true → IsFixedText (Made v) → ⊥
-  no_text (Fixed text) s numbers shaped is = values_of_numbers (Fixed text) s numbers shaped
-  no_text v s numbers shaped is = is
+  -- it is owned, or in a constant
+  pub owned_or_data : (l : Location) (a : ℕ) (t : Shape) → LeadsHere x.table x.blocks (sites_of g) g.ground g.world l a t
+      → IsOwned l.base ⊎ FromData x.table x.blocks g.ground l a t
+  owned_or_data l a t (inl f) = inl (subst IsOwned (sym f.base) tt)
+  owned_or_data l a t (inr (inl f)) = inr f
+  owned_or_data l a t (inr (inr (inl f))) = inl (subst IsOwned (sym f.base) tt)
+  owned_or_data l a t (inr (inr (inr f))) = inl (subst IsOwned (sym f.base) tt)
 
-  -- what a place may stand for is owned, or the text of a literal
-  pub owned_or_text : (l : Location) (a : ℕ) (t : Shape) → IsStood l.base → LeadsHere x.table x.blocks (sites_of g) g.ground g.world l a t
-      → IsOwned l.base ⊎ FromLiteral x.table x.blocks l a t
-  owned_or_text l a t (inl is) leads = inl is
-  owned_or_text l a t (inr text) (inl f) = absurd (subst IsFixedText f.base text)
-  owned_or_text l a t (inr text) (inr (inl (inl f))) =
-      absurd (no_text (value_of f.pieces) f.shape f.numbers f.shaped (subst IsFixedText f.base text))
-  owned_or_text l a t (inr text) (inr (inl (inr f))) = inr f
-  owned_or_text l a t (inr text) (inr (inr (inl f))) = absurd (subst IsFixedText f.base text)
-  owned_or_text l a t (inr text) (inr (inr (inr f))) = absurd (subst IsFixedText f.base text)
+  -- one with texts or sequences, where it isn't made of numbers
+  pub data_linked : (l : Location) (a : ℕ) (t : Shape) → of_numbers t ≡ false → FromData x.table x.blocks g.ground l a t → FromLinked g.ground l a t
+  data_linked l a t other (inl f) = never (sym other ∙ path_numbers f.shape l.path f.offset t f.numbers f.path)
+  data_linked l a t other (inr f) = f
 
-  -- what is no text is owned
-  pub owned_unless_text : (l : Location) (a : ℕ) (t : Shape) → (t ≡ block → ⊥) → IsStood l.base
-      → LeadsHere x.table x.blocks (sites_of g) g.ground g.world l a t → IsOwned l.base
-  owned_unless_text l a t other is leads = by (owned_or_text l a t is leads)
-    where
-      by : IsOwned l.base ⊎ FromLiteral x.table x.blocks l a t → IsOwned l.base
-      by (inl own) = own
-      by (inr f) = absurd (other f.shape)
-
-  -- so is what is made of numbers
-  pub owned_numbers : (l : Location) (a : ℕ) (t : Shape) → of_numbers t ≡ true → IsStood l.base
-      → LeadsHere x.table x.blocks (sites_of g) g.ground g.world l a t → IsOwned l.base
-  owned_numbers l a t numbers is leads = owned_unless_text l a t (λ e. never (sym (ap of_numbers e) ∙ numbers)) is leads
+  pub data_base : (l : Location) (a : ℕ) (t : Shape) → FromData x.table x.blocks g.ground l a t → IsMade l.base
+  data_base l a t (inl f) = subst IsMade (sym f.base) tt
+  data_base l a t (inr f) = subst IsMade (sym f.base) tt
 
   -- where something is seen
   pub owned_seen : (l : Location) (a : ℕ) (t : Shape) → IsOwned l.base → LeadsHere x.table x.blocks (sites_of g) g.ground g.world l a t

@@ -1,6 +1,6 @@
 -- A temporary gets a copy of what stands at a location: what its type starts at is under way at its home, and becomes the copy by a hook.
 use Rattle.std.proofs.Common.{◌≡◌, ℕ, ◌+◌, ◌*◌, ◌<◌, ◌^◌, ◌≤◌, List, [], ◌++◌, length, Bool, true, false, Some, None}
-use Rattle.std.proofs.Common.{refl, sym, ap, ap₂, subst, ◌∙◌, arith, append_assoc}
+use Rattle.std.proofs.Common.{refl, sym, ap, ap₂, subst, ◌∙◌, arith, append-nil, append_assoc}
 use Rattle.std.proofs.lemmas.Bool.{and_parts}
 use Rattle.std.specs.Prelude.{slice_get}
 use Rattle.arc_base.specs.Event.{Event}
@@ -24,7 +24,7 @@ use Rattle.hook_lifting.specs.Lifting.{hook_deed}
 use Rattle.hook_lifting.specs.Weights.{is_built}
 use Rattle.hook_lifting.proofs.ForCallers.{done_then, least_walk, performs_then}
 use Rattle.hook_code.specs.Kept.{AreShort, AreThere, chain_of, rank_in}
-use Rattle.hook_code.specs.Promises.{Routines}
+use Rattle.hook_code.specs.Promises.{AnyWord, Comes, Routines}
 use Rattle.word_code.specs.Memory.{Memory}
 use Rattle.word_code.specs.Routines.{goes_on}
 use Rattle.word_lowering.specs.declared.homes.TheConstants.{FIRST}
@@ -32,8 +32,9 @@ use Rattle.word_lowering.specs.declared.homes.Home.{Home}
 use Rattle.word_lowering.specs.HookCalled.{hook_called}
 use Rattle.word_lowering.specs.Stored.{HaveForms}
 use Rattle.word_lowering.proofs.Blocks.{AreLater, Blocks, Stored}
-use Rattle.word_lowering.proofs.HandLines.{HandCall, hand_around, hand_called, hand_gives, hand_led, hand_most, hand_paid, hand_runs, hand_settles, hand_top}
-use Rattle.word_lowering.proofs.HandLines.{still_led}
+use Rattle.word_lowering.proofs.HandGood.{at_hand, now_there}
+use Rattle.word_lowering.proofs.HandLines.{HandCall, hand_around, hand_called, hand_comes, hand_gives, hand_led, hand_most, hand_paid, hand_runs}
+use Rattle.word_lowering.proofs.HandLines.{hand_settles, hand_top, still_led}
 use Rattle.word_lowering.proofs.HandedTemps.{forgotten, forgotten_good, from_forgotten, without_away, without_here}
 use Rattle.word_lowering.proofs.HookCalls.{IsArgument}
 use Rattle.word_lowering.proofs.HookHomes.{HookHomes, IsHere}
@@ -67,6 +68,24 @@ pub then_then : {A B C : Type 0} (d : Done A) (go : A → World → Done B) (on 
 then_then (Answers es n x w) go on = then_behind es n (go x w) on
 then_then (Finishes es n s w) go on = refl
 then_then (Fails es n w) go on = refl
+
+answered_same : {A : Type 0} {es fs : List Event} {n m : ℕ} {a b : A} {w v : World} → Answers es n a w ≡ Answers fs m b v → a ≡ b
+answered_same e = cc
+
+failed_answers : {A : Type 0} {es fs : List Event} {n m : ℕ} {a : A} {w v : World} → Fails es n w ≡ Answers fs m a v → ⊥
+failed_answers e = cc
+
+finished_answers : {A : Type 0} {es fs : List Event} {n m s : ℕ} {a : A} {w v : World} → Finishes es n s w ≡ Answers fs m a v → ⊥
+finished_answers e = cc
+
+-- nothing is done with it
+perform_given : {A : Type 0} (d : Deed A) (w : World) → perform (d >>= (λ a. give a)) w ≡ perform d w
+perform_given {A = A} d w = performs_then d (λ a. give a) w ∙ by (perform d w)
+  where
+    by : (done : Done A) → done_then done (λ a after. perform (give a) after) ≡ done
+    by (Answers es n a after) = let e : n + 0 ≡ n = omega arith in ap₂ (λ fs k. Answers fs k a after) (append-nil es) e
+    by (Finishes es n s after) = refl
+    by (Fails es n after) = refl
 
 -- what was under way is taken
 abbrev taken_deed : ℕ → Deed Value
@@ -162,7 +181,7 @@ module _ (x : Basis) (g : Both) (line : BlockLine) (rest : List BlockLine) (y : 
     then_given new = give (with_value t g.call.temps new)
 
     -- it takes what became of it
-    goes_then : (w : World) (word : ℕ) (m : Memory) (after : Blocks) → AreLater g.ground.blocks after
+    goes_then : (work : ℕ) (w : World) (word : ℕ) (m : Memory) (after : Blocks) → AreLater g.ground.blocks after
         → IsHere copy_around (hand_top x ready line rest ready_good t there inside none_ready hooked_look is_table have (vacant form))
         (hand_top x ready line rest ready_good t there inside none_ready hooked_look is_table have (vacant form)) [] after w m
         → GoesOn x ready line rest ready_good copy_around
@@ -170,10 +189,10 @@ module _ (x : Basis) (g : Both) (line : BlockLine) (rest : List BlockLine) (y : 
         (hand_top x ready line rest ready_good t there inside none_ready hooked_look is_table have (vacant form)) g.ground.blocks
         (hand_called x ready line rest ready_good t there inside none_ready hooked_look is_table have (vacant form) copy_call) (code_next x g line rest y)
         (hand_most x ready line rest ready_good t there inside none_ready hooked_look is_table have (vacant form) copy_call) 4
-        (hand_runs x ready line rest ready_good t there inside none_ready hooked_look is_table have (vacant form) copy_call) 0 0
+        (hand_runs x ready line rest ready_good t there inside none_ready hooked_look is_table have (vacant form) copy_call) 0 work
         (goes_on (hand_called x ready line rest ready_good t there inside none_ready hooked_look is_table have (vacant form) copy_call) FIRST word
         (code_next x g line rest y) m g.input) (copy_taken then_given w)
-    goes_then w word m after ahead here = by (is_full_at w (at_base (InHand 0))) refl
+    goes_then work w word m after ahead here = by (is_full_at w (at_base (InHand 0))) refl
       where
         by : (full : Bool) → is_full_at w (at_base (InHand 0)) ≡ full
             → GoesOn x ready line rest ready_good copy_around
@@ -181,7 +200,7 @@ module _ (x : Basis) (g : Both) (line : BlockLine) (rest : List BlockLine) (y : 
             (hand_top x ready line rest ready_good t there inside none_ready hooked_look is_table have (vacant form)) g.ground.blocks
             (hand_called x ready line rest ready_good t there inside none_ready hooked_look is_table have (vacant form) copy_call) (code_next x g line rest y)
             (hand_most x ready line rest ready_good t there inside none_ready hooked_look is_table have (vacant form) copy_call) 4
-            (hand_runs x ready line rest ready_good t there inside none_ready hooked_look is_table have (vacant form) copy_call) 0 0
+            (hand_runs x ready line rest ready_good t there inside none_ready hooked_look is_table have (vacant form) copy_call) 0 work
             (goes_on (hand_called x ready line rest ready_good t there inside none_ready hooked_look is_table have (vacant form) copy_call) FIRST word
             (code_next x g line rest y) m g.input)
             (done_then (perform (unless_gone full (does Pops >> give (load w (at_base (InHand 0))))) w) (λ new later. perform (then_given new) later))
@@ -194,16 +213,20 @@ module _ (x : Basis) (g : Both) (line : BlockLine) (rest : List BlockLine) (y : 
                   here g.call.temps (λ u ne. without_away x g line rest y t there u ne) (λ u. refl) is_full_there,
             )
 
-    pub gets_copy_settles : Settles x (starts g line rest) rest (gives (scene_of (high x.table x.blocks (starts g line rest))) t (copied form from))
+    -- behind a line's own work
+    pub copy_settles : (work : ℕ)
+        → Settles x (starts g line rest) rest (Passes (behind [] work (perform (copied form from >>= then_given) g.world)))
     unfolding copy_call
-    gets_copy_settles =
+    copy_settles work =
         let done : Done (Unit {0}) = perform (hook_deed (known_in x.table) Copies ty (at_base (InHand 0)) from) (pushed g.world (vacant form)) in
-        subst (λ d. Settles x (starts g line rest) rest (Passes d)) (sym (copied_done form from then_given g.world y.idle))
-        (none_behind (done_then done (λ u w. copy_taken then_given w))
-        (from_forgotten x g line rest y t there hooked_look (behind [] 0 (done_then done (λ u w. copy_taken then_given w)))
-        (hand_settles x ready line rest ready_good t there inside none_ready hooked_look is_table have (vacant form) copy_call 0
-        (hand_paid x ready line rest ready_good t there inside none_ready hooked_look is_table have (vacant form) copy_call 0 8 (omega arith) done
-        (least_walk Copies form built formed_hooked (at_base (InHand 0)) from (pushed g.world (vacant form)))) (copy_taken then_given) goes_then)))
+        subst (λ d. Settles x (starts g line rest) rest (Passes (behind [] work d))) (sym (copied_done form from then_given g.world y.idle))
+        (from_forgotten x g line rest y t there hooked_look (behind [] work (done_then done (λ u w. copy_taken then_given w)))
+        (hand_settles x ready line rest ready_good t there inside none_ready hooked_look is_table have (vacant form) copy_call work
+        (hand_paid x ready line rest ready_good t there inside none_ready hooked_look is_table have (vacant form) copy_call work 8 (omega arith) done
+        (least_walk Copies form built formed_hooked (at_base (InHand 0)) from (pushed g.world (vacant form)))) (copy_taken then_given) (goes_then work)))
+
+    pub gets_copy_settles : Settles x (starts g line rest) rest (gives (scene_of (high x.table x.blocks (starts g line rest))) t (copied form from))
+    gets_copy_settles = none_behind (perform (copied form from >>= then_given) g.world) (copy_settles 0)
       where
         none_behind : (d : Done Temps) → Settles x (starts g line rest) rest (Passes (behind [] 0 d)) → Settles x (starts g line rest) rest (Passes d)
         none_behind (Answers es n temps w) s =
@@ -212,3 +235,47 @@ module _ (x : Basis) (g : Both) (line : BlockLine) (rest : List BlockLine) (y : 
             let same : 0 + n ≡ n = omega arith in subst (λ k. Settles x (starts g line rest) rest (Passes (Finishes es k status w))) same s
         none_behind (Fails es n w) s =
             let same : 0 + n ≡ n = omega arith in subst (λ k. Settles x (starts g line rest) rest (Passes (Fails es k w))) same s
+
+    -- what it gets is stored by the temporary's look
+    pub record IsCopied (v : Value) : Type 0 where
+      pub after : Blocks
+      pub memory : Memory
+      pub stored : Stored (is_fixed g.ground) after memory (address_of g.call.site.base own_home) (looked x.table g.call.site (of_value t)) v
+
+    pub copy_stored : (es : List Event) (n : ℕ) (v : Value) (w : World) → perform (copied form from) g.world ≡ Answers es n v w → IsCopied v
+    unfolding copy_call
+    copy_stored es n v w e =
+        by (perform (hook_deed (known_in x.table) Copies ty (at_base (InHand 0)) from) (pushed g.world (vacant form)))
+        (hand_comes x ready line rest ready_good t there inside none_ready hooked_look is_table have (vacant form) copy_call 0)
+        (sym (copied_done form from (λ u. give u) g.world y.idle) ∙ (perform_given (copied form from) g.world ∙ e))
+      where
+        top : ℕ
+        top = hand_top x ready line rest ready_good t there inside none_ready hooked_look is_table have (vacant form)
+
+        taken : (fs : List Event) (k : ℕ) (now : World) (full : Bool)
+            → behind fs k (done_then (perform (unless_gone full (does Pops >> give (load now (at_base (InHand 0))))) now)
+            (λ new later. perform (give new) later)) ≡ Answers es n v w → load now (at_base (InHand 0)) ≡ v
+        taken fs k now false e = absurd (failed_answers e)
+        taken fs k now true e = answered_same e
+
+        by : (d : Done (Unit {0}))
+            → Comes x.table (surroundings copy_around) x.live (all_procs x) x.fresh top top [] g.ground.blocks
+            (AnyWord x.table (surroundings copy_around) x.live (all_procs x) x.fresh)
+            (0, hand_called x ready line rest ready_good t there inside none_ready hooked_look is_table have (vacant form) copy_call) FIRST
+            (code_next x g line rest y)
+            (hand_most x ready line rest ready_good t there inside none_ready hooked_look is_table have (vacant form) copy_call) d
+            → done_then d (λ u after. copy_taken (λ new. give new) after) ≡ Answers es n v w → IsCopied v
+        by (Answers fs k u now) c e =
+            let b = c.1 in
+            let at = at_hand x ready line rest ready_good t there inside none_ready hooked_look is_table have (vacant form) b.after b.ahead now b.memory
+            b.here in
+            record {
+              after = b.after;
+              memory = b.memory;
+              stored =
+                  subst (λ q. Stored (is_fixed g.ground) b.after b.memory (address_of g.call.site.base own_home) (looked x.table g.call.site (of_value t)) q)
+                  (sym (now_there x ready line rest ready_good t there inside none_ready hooked_look is_table have (vacant form) b.after b.ahead now b.memory
+                  b.here) ∙ taken fs k now (is_full_at now (at_base (InHand 0))) e) at.stored;
+            }
+        by (Finishes fs k status now) c e = absurd (finished_answers e)
+        by (Fails fs k now) c e = absurd (failed_answers e)

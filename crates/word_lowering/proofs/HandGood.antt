@@ -25,6 +25,7 @@ use Rattle.word_lowering.proofs.HandHomes.{AllHomes, with_hand}
 use Rattle.word_lowering.proofs.HookHomes.{HookHomes, IsHere}
 use Rattle.word_lowering.proofs.HooksGood.{HookedHome, IsAside, IsWithin, good_behind_hooks, hooked_apart, hooked_lies, hooked_may, hooked_no_hand}
 use Rattle.word_lowering.proofs.HooksGood.{hooked_stands, hooked_under, hooked_whole, name_within, within_may}
+use Rattle.word_lowering.proofs.HookTexts.{fixed_alike, fixed_aside, fixed_before}
 use Rattle.word_lowering.proofs.HookWorlds.{IsLike, IsNoHome, like_itself, memory_itself}
 use Rattle.word_lowering.proofs.Keeping.{name_cases, number_cases}
 use Rattle.word_lowering.proofs.Lines.{Basis, IsGood, changed_later, starts}
@@ -34,7 +35,6 @@ use Rattle.word_code.specs.RoutineTable.{Beside}
 use Rattle.word_lowering.proofs.Scenes.{of_value, HasValue, IsThere, address_of, house, is_fixed, looked}
 use Rattle.word_lowering.proofs.ShapeFacts.{of_numbers}
 use Rattle.word_lowering.proofs.Sites.{InMemory, Site, next_base}
-use Rattle.word_lowering.proofs.TextHomes.{beside_text}
 use Rattle.word_lowering.proofs.Sources.{Lying}
 use Rattle.word_lowering.proofs.SitesApart.{Beside as BesideOf, houses, next_least, next_whole, ranges_apart}
 
@@ -120,9 +120,7 @@ module _ (x : Basis) (g : Both) (line : BlockLine) (rest : List BlockLine) (y : 
       subst (IsAside x g line rest y) e (record { lying = hand_within.lying; plain = λ k p numbers. beside_hand k p })
 
   beside_hooked : (h : Home) → HookedHome x g line rest y h → Beside h.at (home_bytes h) hand_there.at (home_bytes hand_there)
-  beside_hooked h (inl p) = beside_hand h p.home
-  beside_hooked h (inr p) =
-      turned hand_there.at (home_bytes hand_there) h.at (home_bytes h) (beside_text x now y h p hand_there.at (home_bytes hand_there) hand_within.lying)
+  beside_hooked h p = beside_hand h p.home
 
   pub handed_apart : (a b : Home) → HandedHome a → HandedHome b → SameOrApart a b
   handed_apart a b (inl p) (inl q) = hooked_apart x g line rest y a b p q
@@ -183,6 +181,9 @@ module _ (x : Basis) (g : Both) (line : BlockLine) (rest : List BlockLine) (y : 
       memory = g.memory;
       reaches = (let e = y.memory.places in omega (arith, e));
       may = may_at;
+      fixed = λ m like. fixed_alike x g line rest y HandedHome lies_at m like;
+      fixed_under = fixed_before x g line rest y;
+      fixed_beside = λ place text is h p own. fixed_aside x g line rest y place text is h (lies_at h p own);
       law = x.law;
     }
 

@@ -22,7 +22,7 @@ use Rattle.hook_lifting.specs.Lifting.{hook_deed}
 use Rattle.hook_lifting.specs.Weights.{is_built}
 use Rattle.hook_lifting.proofs.ForCallers.{LeastDone, done_then}
 use Rattle.hook_code.specs.Kept.{AreShort, AreThere, chain_of, pace_at, rank_in}
-use Rattle.hook_code.specs.Promises.{Routines, from_own}
+use Rattle.hook_code.specs.Promises.{AnyWord, Comes, Routines, from_own}
 use Rattle.hook_code.proofs.ForCallers.{hooks_kept}
 use Rattle.word_lowering.specs.declared.homes.TheConstants.{FIRST}
 use Rattle.word_lowering.specs.declared.homes.Home.{Home}
@@ -38,7 +38,7 @@ use Rattle.word_lowering.proofs.HandGood.{HandedHome, around_hand, at_hand, good
 use Rattle.word_lowering.proofs.HandedTemps.{given_good}
 use Rattle.word_lowering.proofs.HookCalls.{IsArgument}
 use Rattle.word_lowering.proofs.HookHomes.{HookHomes, IsHere}
-use Rattle.word_lowering.proofs.HookLeads.{InBlocks, InHome, Leads, leads_small}
+use Rattle.word_lowering.proofs.HookLeads.{IsLed as IsLedTo, Leads, leads_small}
 use Rattle.word_lowering.proofs.HookLines.{hook_given, hook_runs, hook_same, hook_state, hook_vars}
 use Rattle.word_lowering.proofs.HookReturns.{GoesOn, IsPaid, Lands, returns_settles}
 use Rattle.word_lowering.proofs.HooksGood.{HookedHome}
@@ -72,17 +72,16 @@ module _ (x : Basis) (g : Both) (line : BlockLine) (rest : List BlockLine) (y : 
   pub still_led : (own : Bool) (l : Location) (a ty : ℕ) → IsArgument x g line rest y is_table have own l a ty → IsLed own l a ty
   still_led own l a ty f = record { at = f.at; word = f.word; led = by f.led }
     where
-      by : InHome (is_fixed g.ground) (HookedHome x g line rest y) 0 own [] l f.at (shape hand_around ty)
-          ⊎ InBlocks (is_fixed g.ground) (HookedHome x g line rest y) 0 g.ground.blocks l f.at (shape hand_around ty)
-          → InHome (is_fixed g.ground) (HandedHome x g line rest y t there inside none hooked) 1 own [] l f.at (shape hand_around ty)
-          ⊎ InBlocks (is_fixed g.ground) (HandedHome x g line rest y t there inside none hooked) 1 g.ground.blocks l f.at (shape hand_around ty)
+      by : IsLedTo (is_fixed g.ground) (HookedHome x g line rest y) 0 own [] g.ground.blocks l f.at (shape hand_around ty)
+          → IsLedTo (is_fixed g.ground) (HandedHome x g line rest y t there inside none hooked) 1 own [] g.ground.blocks l f.at (shape hand_around ty)
       by (inl h) =
           inl (record { home = h.home; among = among h.home h.among; base = h.base; offset = h.offset; way = h.way; address = h.address; owned = h.owned })
         where
           among : (k : BlockHome) → HookedHome x g line rest y k ⊎ ⊥ → HandedHome x g line rest y t there inside none hooked k ⊎ ⊥
           among k (inl p) = inl (inl p)
           among k (inr i) = absurd i
-      by (inr b) = inr (record { block = b.block; base = b.base; leads = b.leads })
+      by (inr (inl b)) = inr (inl (record { block = b.block; base = b.base; leads = b.leads }))
+      by (inr (inr c)) = inr (inr (record { root = c.root; base = c.base; fixed = c.fixed; lent = c.lent }))
 
   -- the value itself
   pub hand_led : (own : Bool) (ty : ℕ) → looked x.table g.call.site (of_value t) ≡ shape hand_around ty
@@ -172,6 +171,19 @@ module _ (x : Basis) (g : Both) (line : BlockLine) (rest : List BlockLine) (y : 
             mul-le-mul s (le_refl n) in omega (arith, e, f, k)
     hand_paid work least own (Fails es n w) some = tt
 
+    -- it comes back with memory as the meaning's deed leaves the world
+    pub hand_comes : (before : ℕ) → Comes x.table (surroundings hand_around) x.live (all_procs x) x.fresh hand_top hand_top [] g.ground.blocks
+        (AnyWord x.table (surroundings hand_around) x.live (all_procs x) x.fresh) (before, hand_called) FIRST (code_next x g line rest y) hand_most hand_done
+    hand_comes before =
+        hooks_kept x.table is_table have c.short (surroundings hand_around) x.live (all_procs x) x.fresh c.first c.routines c.are_there c.hook c.ty c.def
+        c.entry c.hooks c.shallow c.built hand_top hand_top [] g.ground.blocks (pushed g.world v) (before, hand_called) FIRST (code_next x g line rest y) c.to
+        c.from c.a c.b
+        (record {
+          calling = record { next = refl; given = hook_given g.words c.a c.b small_a small_b };
+          top_is = refl;
+          here = here_hand x g line rest y t there inside none hooked is_table have v c.stored;
+        }) c.to_led c.from_led c.room
+
     pub hand_settles : (work : ℕ)
         → IsPaid x g line rest y hand_around hand_top hand_top g.ground.blocks hand_called (code_next x g line rest y) hand_most 4 hand_runs 0 work hand_done
         → (finish : World → Done Temps)
@@ -181,16 +193,7 @@ module _ (x : Basis) (g : Both) (line : BlockLine) (rest : List BlockLine) (y : 
         → Settles x (starts g line rest) rest (Passes (behind [] work (done_then hand_done (λ u w. finish w))))
     hand_settles work paid finish then =
         returns_settles x g line rest y hand_around hand_top hand_top g.ground.blocks hand_called (code_next x g line rest y) hand_most 4 hand_runs 0 work
-        finish then hand_done paid
-        (λ before.
-        hooks_kept x.table is_table have c.short (surroundings hand_around) x.live (all_procs x) x.fresh c.first c.routines c.are_there c.hook c.ty c.def
-        c.entry c.hooks c.shallow c.built hand_top hand_top [] g.ground.blocks (pushed g.world v) (before, hand_called) FIRST (code_next x g line rest y) c.to
-        c.from c.a c.b
-        (record {
-          calling = record { next = refl; given = hook_given g.words c.a c.b small_a small_b };
-          top_is = refl;
-          here = here_hand x g line rest y t there inside none hooked is_table have v c.stored;
-        }) c.to_led c.from_led c.room)
+        finish then hand_done paid hand_comes
 
     -- ---- behind it
 

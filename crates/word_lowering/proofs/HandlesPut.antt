@@ -240,7 +240,7 @@ module _ (StandsFixed : (place : ℕ) → List ℕ → Type 0) where
                 bytes_front n b.is.standing.payload (payload_bytes m sized are b.is.standing there),
               )
 
-      handle_is : HasHandle m to n (place_of (present_of n k b))
+      pub handle_is : HasHandle m to n (place_of (present_of n k b))
       handle_is = by k h b
         where
           by : (k : Option ℕ) → IsHandle d m to block n k → (b : block_of_text n k) → HasHandle m to n (place_of (present_of n k b))
@@ -255,7 +255,7 @@ module _ (StandsFixed : (place : ℕ) → List ℕ → Type 0) where
           by None h b = refl
           by (Some k) h b = ap (λ i. take i b.is.standing.payload) (sym b.long) ∙ text_front StandsFixed d w m has n k b
 
-      may_grow_so : (wanted : ℕ) → wanted < 2 ^ 32 → MayGrow own_data_at (growing wanted) m
+      pub may_grow_so : (wanted : ℕ) → wanted < 2 ^ 32 → MayGrow own_data_at (growing wanted) m
       may_grow_so wanted small = record { heap = has.kept; all = has.room; word = small; unused = unused; present = present_is }
 
       abbrev pub LeavesResized : (other : Memory) → (bytes : ℕ) → List ℕ → Type 0
@@ -301,6 +301,18 @@ module _ (StandsFixed : (place : ℕ) → List ℕ → Type 0) where
 
       -- ---- more characters
 
+      -- whichever way they came
+      pub more_there : (more : List ℕ) (other : Memory) → n + length more < 2 ^ 32
+          → AreContentsPut own_data_at (record {
+            to = to;
+            length = n + length more;
+            growth = growing (n + length more);
+            bytes = kept_of (present_of n k b) n ++ more;
+          }) m other → LeavesResized other (n + length more) (text_then n k b ++ more)
+      more_there more other small x =
+          subst (λ ts. LeavesResized other (n + length more) (ts ++ more)) kept_is
+          (resized_put other (n + length more) (kept_of (present_of n k b) n ++ more) small x)
+
       module _ (from : ℕ) (more : List ℕ) (t : TextAt w.heap d.stands m from more) where
         abbrev wanted : ℕ
         wanted = n + length (source_bytes t.source)
@@ -341,9 +353,7 @@ module _ (StandsFixed : (place : ℕ) → List ℕ → Type 0) where
         pub appended_there : (other : Memory) → wanted < 2 ^ 32 → AreContentsPut own_data_at (appended_text append_use) m other
             → LeavesResized other (n + length more) (text_then n k b ++ more)
         appended_there other small x =
-            subst (λ bs. LeavesResized other (n + length bs) (text_then n k b ++ bs)) t.bytes
-            (subst (λ ts. LeavesResized other wanted (ts ++ source_bytes t.source)) kept_is
-            (resized_put other wanted (kept_of (present_of n k b) n ++ source_bytes t.source) small x))
+            subst (λ bs. LeavesResized other (n + length bs) (text_then n k b ++ bs)) t.bytes (more_there (source_bytes t.source) other small x)
 
       -- ---- another length
 

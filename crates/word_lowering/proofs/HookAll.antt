@@ -25,13 +25,11 @@ use Rattle.word_lowering.proofs.HookSurroundings.{shape, surroundings}
 use Rattle.word_lowering.proofs.HookTakes.{takes_it}
 use Rattle.word_lowering.proofs.HookWorlds.{IsMemoryLike}
 use Rattle.word_lowering.proofs.ShapeFacts.{of_numbers}
-use Rattle.word_lowering.proofs.TextOperands.{FixedThere}
 use Rattle.word_lowering.proofs.TypeShapes.{has_form}
 use Rattle.word_lowering.proofs.VacantShapes.{plain_numbers}
 
 module _ (z : HookHomes) (live : Lives) (none : (m : Memory) → live (as_state m) ≡ no_objects) (procs : List WordProc) (fresh : Fresh)
     (kept : (name : HeapRoutineName) → IsKeptThere live procs (heap_routine own_data_at name))
-    (fixed : (m : Memory) → IsMemoryLike z.Homes z.start z.memory m → FixedThere z.StandsFixed m)
     (elements_small : (ty of : ℕ) → slice_get z.table ty ≡ Some (D.Seq of) → size_at z.table of < 2 ^ 32) (at : ℕ) (statics : List ℕ)
     (bits_kept : IsKeptAt live procs at statics copies)
     (has_data : (m : Memory) → IsMemoryLike z.Homes z.start z.memory m → AreBytes m.heap → HasData at statics m) where
@@ -43,7 +41,7 @@ module _ (z : HookHomes) (live : Lives) (none : (m : Memory) → live (as_state 
     forgets = forgets_it z live procs fresh kept;
     releases = releases_it z live procs fresh kept;
     takes = takes_it z live none procs fresh (kept PutsSequence) elements_small;
-    copies_text = copies_text_it z live none procs fresh (kept CopiesText) fixed;
+    copies_text = copies_text_it z live none procs fresh (kept CopiesText);
     copies_bits = copies_bits_it z plain_shapes live procs fresh at statics bits_kept has_data;
     moves_word = moves_it z plain_shapes live procs fresh;
   }

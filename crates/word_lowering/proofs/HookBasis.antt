@@ -22,7 +22,7 @@ use Rattle.word_lowering.proofs.HandleLines.{heap_kept}
 use Rattle.word_lowering.proofs.HookAll.{hook_routines}
 use Rattle.word_lowering.proofs.HooksGood.{around_hooks, hooked_lies}
 use Rattle.word_lowering.proofs.HookSurroundings.{surroundings}
-use Rattle.word_lowering.proofs.HookTexts.{data_alike, fixed_alike}
+use Rattle.word_lowering.proofs.HookTexts.{data_alike}
 use Rattle.word_lowering.proofs.Lines.{Basis, IsGood, all_procs, starts}
 use Rattle.word_lowering.proofs.Related.{Both, routines, sites_of}
 use Rattle.word_lowering.proofs.Scenes.{IsThere, house, looked, of_value}
@@ -69,7 +69,6 @@ module _ (x : Basis) (b : HookBasis x) (g : Both) (line : BlockLine) (rest : Lis
   pub routines_here : Routines x.table (surroundings (around_hooks x g line rest y b.is_table b.have)) x.live (all_procs x) x.fresh
   routines_here =
       hook_routines (around_hooks x g line rest y b.is_table b.have) x.live x.none (all_procs x) x.fresh (heap_kept x)
-      (λ m like. fixed_alike x g line rest y (around_hooks x g line rest y b.is_table b.have).Homes (hooked_lies x g line rest y) m like)
       b.elements_small (routines x.table x.blocks) x.runtimes.others.statics (x.kept Copies)
       (λ m like. data_alike x g line rest y (around_hooks x g line rest y b.is_table b.have).Homes (hooked_lies x g line rest y) m like)
 
@@ -80,7 +79,7 @@ module _ (x : Basis) (b : HookBasis x) (g : Both) (line : BlockLine) (rest : Lis
   hand_routines t there inside none hooked v =
       let z = around_hand x g line rest y t there inside none hooked b.is_table b.have v in
       hook_routines z x.live x.none (all_procs x) x.fresh (heap_kept x)
-      (λ m like. fixed_alike x g line rest y z.Homes (lies_at x g line rest y t there inside none hooked) m like) b.elements_small
+      b.elements_small
       (routines x.table x.blocks) x.runtimes.others.statics (x.kept Copies)
       (λ m like. data_alike x g line rest y z.Homes (lies_at x g line rest y t there inside none hooked) m like)
 

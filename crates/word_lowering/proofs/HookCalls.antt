@@ -71,7 +71,7 @@ module _ (x : Basis) (g : Both) (line : BlockLine) (rest : List BlockLine) (y : 
       → IsOwn l.base → of_numbers (shape around ty) ≡ false → IsArgument own l a ty
   home_argument own l a ty h mine hooked =
       let is_hooked : of_numbers h.home.shape ≡ false = by h.home.shape l.path h.offset (of_numbers h.home.shape) refl h.way in
-      let under = around.under h.home (inl (record { home = h.among; hooked = is_hooked })) in
+      let under = around.under h.home (record { home = h.among; hooked = is_hooked }) in
       let inside = path_within h.home.shape l.path h.offset (shape around ty) h.way in
       let address = h.address in let most = y.memory.sized.stack_most in let places = y.memory.places in
       record {
@@ -79,7 +79,7 @@ module _ (x : Basis) (g : Both) (line : BlockLine) (rest : List BlockLine) (y : 
         word = omega (arith, under, inside, address, most, places);
         led = inl (record {
           home = h.home;
-          among = inl (inl (record { home = h.among; hooked = is_hooked }));
+          among = inl (record { home = h.among; hooked = is_hooked });
           base = h.base;
           offset = h.offset;
           way = h.way;
@@ -108,7 +108,7 @@ module _ (x : Basis) (g : Both) (line : BlockLine) (rest : List BlockLine) (y : 
   block_argument own l a ty f = record {
     at = a;
     word = (let n = f.near in omega (arith, n));
-    led = inr (record { block = f.block; base = f.base; leads = f.leads });
+    led = inr (inl (record { block = f.block; base = f.base; leads = f.leads }));
   }
 
   pub owned_argument : (own : Bool) (l : Location) (a ty : ℕ) → FromOwned x.table (sites_of (starts g line rest)) g.ground g.world l a (shape around ty)

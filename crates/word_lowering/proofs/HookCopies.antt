@@ -1,5 +1,5 @@
 -- A hook copies a text by the routine of the heap.
-use Rattle.std.proofs.Common.{◌≡◌, ℕ, ◌+◌, ◌*◌, ◌≤◌, Bool, true, false, List, [], ◌∷◌, ◌++◌, length, Some, None}
+use Rattle.std.proofs.Common.{◌≡◌, inr, ℕ, ◌+◌, ◌*◌, ◌≤◌, Bool, true, false, List, [], ◌∷◌, ◌++◌, length, Some, None}
 use Rattle.std.proofs.Common.{refl, sym, ap, subst, ◌∙◌, arith}
 use Rattle.std.specs.Prelude.{slice_get, if◌then◌else◌}
 use Rattle.std.proofs.lemmas.Bool.{and_parts}
@@ -43,15 +43,13 @@ use Rattle.word_lowering.proofs.HandlesPut.{LeavesHandle, may_grow_new, copy_use
 use Rattle.word_lowering.proofs.HeapWanted.{room_in, fresh_came}
 use Rattle.word_lowering.proofs.HookFresh.{may_have, put_here, put_later, fresh_put}
 use Rattle.word_lowering.proofs.HookHomes.{HookHomes, IsHere, sized}
-use Rattle.word_lowering.proofs.HookLeads.{stored_there}
 use Rattle.word_lowering.proofs.HookSteps.{text_shape}
 use Rattle.word_lowering.proofs.HookSurroundings.{shape, shaped, IsLed, at_word, surroundings}
-use Rattle.word_lowering.proofs.HookWords.{IsBlocky}
-use Rattle.word_lowering.proofs.HookWorlds.{IsMemoryLike}
+use Rattle.word_lowering.proofs.HookWords.{IsBlocky, stands_there}
 use Rattle.word_lowering.proofs.ResizedWorlds.{answered}
 use Rattle.word_lowering.proofs.RowRuns.{Came}
 use Rattle.word_lowering.proofs.ShapeFacts.{never}
-use Rattle.word_lowering.proofs.TextOperands.{IsKept, is_source, TextAt, FixedThere, IsText, text_at_handle}
+use Rattle.word_lowering.proofs.TextOperands.{IsKept, is_source, TextAt, IsText, text_at_handle}
 use Rattle.word_lowering.proofs.WantOfHeap.{first_room}
 
 -- ---- what the routine promises
@@ -65,8 +63,7 @@ new_few u none = by (holds_it u.present u.wanted)
     by false = let c = class_few u.wanted in omega (arith, c, none)
 
 module _ (z : HookHomes) (live : Lives) (none : (m : Memory) → live (as_state m) ≡ no_objects) (procs : List WordProc) (fresh_bytes : Fresh)
-    (kept : IsKeptThere live procs (copies_text own_data_at))
-    (fixed : (m : Memory) → IsMemoryLike z.Homes z.start z.memory m → FixedThere z.StandsFixed m) where
+    (kept : IsKeptThere live procs (copies_text own_data_at)) where
   module _ (low top : ℕ) (h : HookHand) (d : Blocks) (w : World) (s : ℕ × WordState) (to : ℕ) (rest : List WordInstr) (l from : Location) (a b ty : ℕ)
       (calling : IsCalling TEXT_COPY (a ∷ b ∷ []) to rest s.1) (x : IsHere z low top (shaped z h) d w s.1.memory) (leads : IsLed z true h d l a ty)
       (leads_from : IsLed z false h d from b ty) (entry : slice_get z.table ty ≡ Some D.Text) (seen : is_seen w from ≡ true) where
@@ -95,8 +92,7 @@ module _ (z : HookHomes) (live : Lives) (none : (m : Memory) → live (as_state 
     stands =
         subst (λ t. Stored z.StandsFixed d m b t v) is_block
         (subst (λ k. Stored z.StandsFixed d m k (shape z ty) v) (sym (at_word z low top h d w m from b ty false x leads_from live_from))
-        (stored_there z.StandsFixed z.Homes z.apart z.start z.under z.first z.others (shaped z h) low x.here.up d w m x.here.holds false from leads_from.at
-        (shape z ty) leads_from.led live_from))
+        (stands_there z low top (shaped z h) d w m x false from leads_from.at (shape z ty) (inr is_block) leads_from.led live_from))
 
     is_text : (v : Value) → Stored z.StandsFixed d m b block v → is_whole w v ≡ true → IsText z.StandsFixed v
     is_text (Handle n k) at whole = tt
@@ -105,7 +101,7 @@ module _ (z : HookHomes) (live : Lives) (none : (m : Memory) → live (as_state 
     is_text v at whole = absurd at
 
     there : TextAt w.heap d.stands m b text
-    there = text_at_handle z.StandsFixed d w m x.here.holds.heap (sized z low top (shaped z h) d w m x) x.bytes (fixed m x.same) b v
+    there = text_at_handle z.StandsFixed d w m x.here.holds.heap (sized z low top (shaped z h) d w m x) x.bytes (z.fixed m x.same) b v
         (is_text v stands (and_parts (is_there w from) (is_whole w v) seen).1) stands (and_parts (is_there w from) (is_whole w v) seen).1
 
     abbrev q : AppendingText

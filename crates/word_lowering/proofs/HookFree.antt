@@ -21,13 +21,13 @@ and_false : (b c : Bool) → c ≡ false → (b && c) ≡ false
 and_false true c e = e
 and_false false c e = refl
 
-pub got_plain : (a : Around) (hooked copied : Bool) (ty : Option ℕ) (to from : Housed) (k : List WordInstr) → hooked ≡ false
-    → got_code a (hooked && copied) ty to from k ≡ moves to from k
-got_plain a hooked copied ty to from k e = ap (λ b. got_code a (b && copied) ty to from k) e
+pub got_plain : (a : Around) (hooked copied other : Bool) (ty : Option ℕ) (to from : Housed) (k : List WordInstr) → hooked ≡ false
+    → got_code a (hooked && copied) (hooked && other) ty to from k ≡ moves to from k
+got_plain a hooked copied other ty to from k e = ap (λ b. got_code a (b && copied) (b && other) ty to from k) e
 
-pub got_looked : (a : Around) (hooked copied : Bool) (ty : Option ℕ) (to from : Housed) (k : List WordInstr) → copied ≡ false
-    → got_code a (hooked && copied) ty to from k ≡ moves to from k
-got_looked a hooked copied ty to from k e = ap (λ b. got_code a b ty to from k) (and_false hooked copied e)
+pub got_looked : (a : Around) (hooked copied blank : Bool) (ty : Option ℕ) (to from : Housed) (k : List WordInstr) → copied ≡ false
+    → got_code a (hooked && copied) blank ty to from k ≡ got_code a false blank ty to from k
+got_looked a hooked copied blank ty to from k e = ap (λ b. got_code a b blank ty to from k) (and_false hooked copied e)
 
 pub assigned_plain : (a : Around) (hooked : Bool) (row : List WordInstr → List WordInstr) (ty : Option ℕ) (from : List From) (k : List WordInstr)
     → hooked ≡ false → assigned_code a hooked row ty from k ≡ row k

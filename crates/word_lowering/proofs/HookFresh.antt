@@ -56,7 +56,8 @@ module _ (z : HookHomes) (low top : ℕ) (h : HookHand) (d : Blocks) (w : World)
       by (inl f) =
           let at = x.here.holds.homes f.home f.among in
           subst (λ b. leads_from w b l.path ≡ true) (sym f.base) (base_there w w f.home.base l.path at.value at.holds)
-      by (inr f) =
+      by (inr (inr f)) = subst (λ b. leads_from w b l.path ≡ true) (sym f.base) refl
+      by (inr (inl f)) =
           let born = f.leads.born in let all = x.here.holds.heap.born in
           subst (λ b. leads_from w b l.path ≡ true) (sym f.base)
           (sym (fresh_before w.heap bytes c l.path f.block (omega (arith, born, all)))

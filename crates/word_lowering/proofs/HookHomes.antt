@@ -1,11 +1,11 @@
 -- What hooks have around them: homes, of which words may be put, and the world and the memory before.
-use Rattle.std.proofs.Common.{◌≡◌, ◌≢◌, ◌⊎◌, inl, inr, ℕ, ◌+◌, ◌*◌, ◌%◌, ◌^◌, ◌<◌, ◌≤◌, Bool, true, List, length}
+use Rattle.std.proofs.Common.{◌≡◌, ◌≢◌, inl, inr, ℕ, ◌+◌, ◌*◌, ◌%◌, ◌^◌, ◌<◌, ◌≤◌, Bool, true, List, length}
 use Rattle.std.proofs.Common.{ap, refl, subst, ◌∙◌, arith, mul-le-mul, le_refl}
-use Rattle.std.proofs.lemmas.Bool.{and_from, eq-eqb}
+use Rattle.std.proofs.lemmas.Bool.{and_from, eq-eqb, true≢false}
 use Rattle.std.specs.Prelude.{◌==◌}
 use Rattle.nim_types.specs.declared.types.TypeDef.{TypeDef}
 use Rattle.nim_types.specs.Table.{IsTable}
-use Rattle.nim_meaning.specs.Values.{Location, InHand, count}
+use Rattle.nim_meaning.specs.Values.{Location, InHand, count, part}
 use Rattle.nim_meaning.specs.State.{World, is_there}
 use Rattle.flat_code.specs.Shapes.{Shape}
 use Rattle.rv32_isa.specs.declared.micro_op.Size.TheVariants.{Word}
@@ -31,7 +31,10 @@ use Rattle.word_lowering.proofs.BlockHomes.{Home, home_bytes, SameOrApart, FromB
 use Rattle.word_lowering.proofs.CallPlaces.{place_cell}
 use Rattle.word_lowering.proofs.HandHomes.{Hand, AllHomes, all_apart, in_range}
 use Rattle.word_lowering.proofs.HookHere.{Here, AllWhole, whole_at, ascends_low}
-use Rattle.word_lowering.proofs.HookLeads.{InHome, InBlocks}
+use Rattle.word_lowering.proofs.FixedParts.{fixed_cell, fixed_whole, fixed_within}
+use Rattle.word_lowering.proofs.FixedValues.{data_bytes}
+use Rattle.word_lowering.proofs.HookLeads.{InFixed, IsLed}
+use Rattle.word_lowering.proofs.TextOperands.{FixedThere}
 use Rattle.word_lowering.proofs.HookWorlds.{IsLike, IsOther, IsMemoryLike, may_as}
 
 -- ---- what is around hooks
@@ -40,7 +43,7 @@ pub record HookHomes : Type 1 where
   pub table : List TypeDef
   pub is_table : IsTable table
   pub have : HaveForms table
-  -- literals in the data
+  -- what stands in the data
   pub StandsFixed : (place : ℕ) → List ℕ → Type 0
   -- homes, apart and before an address
   pub Homes : Home → Type 0
@@ -60,6 +63,11 @@ pub record HookHomes : Type 1 where
   pub memory : Memory
   pub reaches : start ≤ stack_at + length memory.places
   pub may : (h : Home) → Homes h → (k : ℕ) → k + 4 ≤ home_bytes h → k % 4 ≡ 0 → may_put memory (h.at + k) Word ≡ true
+  -- while they run the data is as it was, beside what is put
+  pub fixed : (m : Memory) → IsMemoryLike Homes start memory m → FixedThere StandsFixed m
+  pub fixed_under : (place : ℕ) (text : List ℕ) → StandsFixed place text → place + length text ≤ start
+  pub fixed_beside : (place : ℕ) (text : List ℕ) → StandsFixed place text → (h : Home) → Homes h → IsOwn h.base
+      → Beside place (length text) h.at (home_bytes h)
   pub law : MemoryLaw
 
 -- the words of a range may be put
@@ -88,7 +96,7 @@ module _ (z : HookHomes) where
     away = all_apart z.StandsFixed z.Homes z.apart z.start z.under z.first z.others hand low x.here.up
 
     abbrev pub Led : (own : Bool) (l : Location) (at : ℕ) (t : Shape) → Type 0
-    Led own l at t = InHome z.StandsFixed z.Homes z.first own hand l at t ⊎ InBlocks z.StandsFixed z.Homes z.first d l at t
+    Led own l at t = IsLed z.StandsFixed z.Homes z.first own hand d l at t
 
     pub sized : Sized m
     sized = x.here.holds.sized
@@ -190,13 +198,33 @@ module _ (z : HookHomes) where
                 (behind + k) 4 (omega (arith, within, inside))));
           }
 
+    -- ---- in a constant
+
+    pub data_there : FixedThere z.StandsFixed m
+    data_there = z.fixed m x.same
+
+    fixed_open : (l : Location) (at : ℕ) (t : Shape) (own : Bool) → InFixed z.StandsFixed z.Homes z.first own l at t → IsOpen m at (shape_bytes t)
+    fixed_open l at t own f =
+        let v = part f.root l.path in
+        let within = (fixed_within z.StandsFixed m sized data_there at t v f.fixed).1 in
+        let under = z.fixed_under f.fixed.place (data_bytes f.fixed) f.fixed.stands in
+        let s = start_here in let fits = x.here.fits in let e = x.ends in let most = sized.stack_most in
+        let whole = fixed_whole z.StandsFixed m sized data_there at t v f.fixed in
+        record {
+          whole = whole;
+          small = omega (arith, within, under, s, fits, e, most);
+          may = λ k inside even.
+              (fixed_cell z.StandsFixed m sized data_there at t v f.fixed (at + k) (omega arith) (omega (arith, inside)) (omega (arith, even, whole))).may;
+        }
+
     -- ---- where a location leads
 
     pub led_open : (own : Bool) (l : Location) (at : ℕ) (t : Shape) → Led own l at t → is_there w l ≡ true → IsOpen m at (shape_bytes t)
     led_open own l at t (inl f) live =
         open_part f.home.at (home_bytes f.home) f.offset (shape_bytes t) (path_within f.home.shape l.path f.offset t f.way)
         (path_whole f.home.shape l.path f.offset t f.way) at f.address (home_open f.home f.among)
-    led_open own l at t (inr f) live = block_open l at t (record { block = f.block; base = f.base; leads = f.leads }) live
+    led_open own l at t (inr (inl f)) live = block_open l at t (record { block = f.block; base = f.base; leads = f.leads }) live
+    led_open own l at t (inr (inr f)) live = fixed_open l at t own f
 
     -- what is no home's and not the heap's lies beside one that is owned
     pub led_beside : (l : Location) (at : ℕ) (t : Shape) → Led true l at t → is_there w l ≡ true → (b n : ℕ)
@@ -212,7 +240,8 @@ module _ (z : HookHomes) where
         by (inr i) =
             let r = in_range z.first z.start hand low f.home x.here.up i in let c = r.begins in let e = o.before in
             narrow (inl (omega (arith, c, e)))
-    led_beside l at t (inr f) live b n o = by o.heap
+    led_beside l at t (inr (inr f)) live b n o = absurd (true≢false f.lent)
+    led_beside l at t (inr (inl f)) live b n o = by o.heap
       where
         p : InPayload l at t (record { block = f.block; base = f.base; leads = f.leads }) live
         p = in_payload l at t (record { block = f.block; base = f.base; leads = f.leads }) live

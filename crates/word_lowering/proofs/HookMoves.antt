@@ -1,11 +1,11 @@
 -- What has no hooks is moved where hooks are: as one word, or by a routine, from where one location leads to where another one does.
 use Rattle.std.proofs.Common.{◌≡◌, ◌≢◌, ◌⊎◌, inl, inr, ℕ, zero, suc, ◌+◌, ◌-◌, ◌*◌, ◌%◌, ◌^◌, ◌≤◌, Bool, true, false, List, [], ◌∷◌, length, Some}
 use Rattle.std.proofs.Common.{refl, sym, ap, subst, ◌∙◌, arith}
-use Rattle.std.proofs.lemmas.Bool.{and_parts}
+use Rattle.std.proofs.lemmas.Bool.{and_parts, true≢false}
 use Rattle.std.proofs.lemmas.Option.{same_Some}
 use Rattle.nim_types.specs.Forms.{Form, plain, reference, block, elements, row, parts, resource, wrapped, hooked}
 use Rattle.nim_types.specs.declared.types.TheConstants.{WORD_BYTES}
-use Rattle.nim_meaning.specs.Values.{Value, Location, bytes, is_full}
+use Rattle.nim_meaning.specs.Values.{Value, Location, bytes, is_full, part}
 use Rattle.nim_meaning.specs.State.{World, load, store, is_there, is_seen, is_full_at}
 use Rattle.nim_meaning.specs.Deeds.{Stores, perform, unless_gone, branch, costs, does, sets}
 use Rattle.nim_meaning.specs.Lifted.{Walk, walk, walk_all, each_part, bits}
@@ -34,16 +34,19 @@ use Rattle.hook_lifting.specs.Lifting.{walk_of, hook_deed}
 use Rattle.hook_code.specs.HookCode.{bytes_at}
 use Rattle.hook_code.specs.Surroundings.{Hand as HookHand}
 use Rattle.hook_code.specs.Promises.{IsBack, Comes, AnyWord, IsMade, IsMoved, Moves, MovesWord, CopiesBits, bits_pace}
+use Rattle.word_lowering.proofs.BaseValues.{IsOwn}
 use Rattle.word_lowering.proofs.BitMoves.{low_carried}
 use Rattle.word_lowering.proofs.Blocks.{Blocks, Stored, Each}
 use Rattle.word_lowering.proofs.BlocksBorn.{later_same}
 use Rattle.word_lowering.proofs.BlockHomes.{Home, home_bytes, SameOrApart, FromBlock}
 use Rattle.word_lowering.proofs.FullValues.{full_shape}
-use Rattle.word_lowering.proofs.HandHomes.{Hand, AllHomes, all_apart}
-use Rattle.word_lowering.proofs.HookHomes.{HookHomes, IsOpen, IsHere, Led, sized, led_open, InPayload, in_payload, standing, is_here}
-use Rattle.word_lowering.proofs.HookLeads.{InHome, InBlocks, stored_there}
+use Rattle.word_lowering.proofs.FixedParts.{fixed_within}
+use Rattle.word_lowering.proofs.FixedValues.{data_bytes}
+use Rattle.word_lowering.proofs.HandHomes.{Hand, AllHomes, all_apart, in_range}
+use Rattle.word_lowering.proofs.HookHomes.{HookHomes, IsOpen, IsHere, Led, sized, led_open, data_there, InPayload, in_payload, standing, is_here}
+use Rattle.word_lowering.proofs.HookLeads.{InBlocks, InFixed, InHome}
 use Rattle.word_lowering.proofs.HookSurroundings.{shape, shaped, IsLed, at_word, surroundings}
-use Rattle.word_lowering.proofs.HookWords.{IsThen, is_put}
+use Rattle.word_lowering.proofs.HookWords.{IsThen, is_put, stands_there}
 use Rattle.word_lowering.proofs.HookWorlds.{IsMemoryLike}
 use Rattle.word_lowering.proofs.Keeping.{number_cases}
 use Rattle.word_lowering.proofs.Moves.{words_of}
@@ -187,12 +190,53 @@ module _ (z : HookHomes) (low top : ℕ) (hand : Hand) (d : Blocks) (w : World) 
           both (inr (inl h)) same p q = inr (inl (omega (arith, h, same, p, q)))
           both (inr (inr h)) same p q = inr (inr (omega (arith, h, same, p, q)))
 
-  pub led_separate : (p q : Bool) (l from : Location) (a b : ℕ) (t : Shape) → Led z low top hand d w m x p l a t → Led z low top hand d w m x q from b t
+  -- a part of a constant, beside where something is put
+  module _ (q : Bool) (from : Location) (b : ℕ) (t : Shape) (g : InFixed z.StandsFixed z.Homes z.first q from b t) where
+    abbrev place : ℕ
+    place = g.fixed.place
+
+    abbrev all_bytes : List ℕ
+    all_bytes = data_bytes g.fixed
+
+    inside : (place ≤ b) × (b + shape_bytes t ≤ place + length all_bytes)
+    inside = fixed_within z.StandsFixed m (sized z low top hand d w m x) (data_there z low top hand d w m x) b t (part g.root from.path) g.fixed
+
+    home_and_fixed : (l : Location) (a : ℕ) (f : InHome z.StandsFixed z.Homes z.first true hand l a t) → Separate a b (shape_bytes t)
+    home_and_fixed l a f = by f.among
+      where
+        apart : Beside place (length all_bytes) f.home.at (home_bytes f.home) → Separate a b (shape_bytes t)
+        apart (inl h) = let is = f.address in let i = inside in inr (inr (omega (arith, h, is, i)))
+        apart (inr h) =
+            let is = f.address in let i = inside in let k = path_within f.home.shape l.path f.offset t f.way in inr (inl (omega (arith, h, is, i, k)))
+
+        by : All f.home → Separate a b (shape_bytes t)
+        by (inl i) = apart (z.fixed_beside place all_bytes g.fixed.stands f.home i (subst IsOwn f.base (f.owned refl)))
+        by (inr i) =
+            let r = in_range z.first z.start hand low f.home x.here.up i in
+            let begins = r.begins in let under = z.fixed_under place all_bytes g.fixed.stands in
+            apart (inl (omega (arith, begins, under)))
+
+    block_and_fixed : (l : Location) (a : ℕ) (f : InBlocks z.StandsFixed z.Homes z.first d l a t) → is_there w l ≡ true → Separate a b (shape_bytes t)
+    block_and_fixed l a f live = by (data_there z low top hand d w m x place all_bytes g.fixed.stands).4.heap
+      where
+        there : InPayload z low top hand d w m x l a t (as_block l a t f) live
+        there = in_payload z low top hand d w m x l a t (as_block l a t f) live
+
+        by : Beside heap_at (length m.heap) place (length all_bytes) → Separate a b (shape_bytes t)
+        by (inl e) =
+            let i = inside in let at = there.at_is in let within = there.within in let high = there.there.high in
+            inr (inl (omega (arith, e, i, at, within, high)))
+        by (inr e) = let i = inside in let at = there.at_is in let least = there.there.low in inr (inr (omega (arith, e, i, at, least)))
+
+  pub led_separate : (q : Bool) (l from : Location) (a b : ℕ) (t : Shape) → Led z low top hand d w m x true l a t → Led z low top hand d w m x q from b t
       → is_there w l ≡ true → is_there w from ≡ true → Separate a b (shape_bytes t)
-  led_separate p q l from a b t (inl f) (inl g) live other = two_homes p q l from a b t f g
-  led_separate p q l from a b t (inl f) (inr g) live other = home_and_block p q l from a b t f g other
-  led_separate p q l from a b t (inr f) (inl g) live other = turned b a (shape_bytes t) (home_and_block q p from l b a t g f live)
-  led_separate p q l from a b t (inr f) (inr g) live other = two_blocks l from a b t f g live other
+  led_separate q l from a b t (inl f) (inl g) live other = two_homes true q l from a b t f g
+  led_separate q l from a b t (inl f) (inr (inl g)) live other = home_and_block true q l from a b t f g other
+  led_separate q l from a b t (inl f) (inr (inr g)) live other = home_and_fixed q from b t g l a f
+  led_separate q l from a b t (inr (inl f)) (inl g) live other = turned b a (shape_bytes t) (home_and_block q true from l b a t g f live)
+  led_separate q l from a b t (inr (inl f)) (inr (inl g)) live other = two_blocks l from a b t f g live other
+  led_separate q l from a b t (inr (inl f)) (inr (inr g)) live other = block_and_fixed q from b t g l a f live
+  led_separate q l from a b t (inr (inr f)) g live other = absurd (true≢false f.lent)
 
 -- ---- moves
 
@@ -231,7 +275,7 @@ module _ (z : HookHomes) (plain_shapes : (ty : ℕ) → has_hooks z.table ty ≡
 
     stands : Stored z.StandsFixed d m b t v
     stands = subst (λ k. Stored z.StandsFixed d m k t v) (sym from_is)
-        (stored_there z.StandsFixed z.Homes z.apart z.start z.under z.first z.others hand low x.here.up d w m x.here.holds false from of.at t of.led seen)
+        (stands_there z low top hand d w m x false from of.at t (inl (plain_shapes ty bare)) of.led seen)
 
     size : bytes v ≡ shape_bytes t
     size = bytes_is v t (plain_shapes ty bare) (full_shape z.StandsFixed d m b t v stands is_full_value)
@@ -308,7 +352,7 @@ module _ (z : HookHomes) (plain_shapes : (ty : ℕ) → has_hooks z.table ty ≡
                 area_by m (suc j) a to_open.whole cells_to,
                 area_by m (suc j) b from_open.whole cells_from,
                 subst (Separate a b) is (subst (λ k. Separate k b (shape_bytes t)) (sym to_is) (subst (λ k. Separate to.at k (shape_bytes t)) (sym from_is)
-                    (led_separate z low top hand d w m x true false l from to.at of.at t to.led of.led there seen))),
+                    (led_separate z low top hand d w m x false l from to.at of.at t to.led of.led there seen))),
               )) in
               let copied : IsCopied u m back.memory = subst (λ mem. IsCopied u mem back.memory) is_memory back.leaves in
               let then = moved_then back.memory (z.law.regions _ _ (sized z low top hand d w m x) copied.rewritten.sizes)

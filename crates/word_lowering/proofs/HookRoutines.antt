@@ -40,7 +40,7 @@ use Rattle.word_lowering.proofs.HeapChanged.{TwoMemories}
 use Rattle.word_lowering.proofs.HeapKept.{two_memories}
 use Rattle.word_lowering.proofs.HeapsThen.{heap_still, heap_gone, heap_filled, later_filled, with_filled}
 use Rattle.word_lowering.proofs.HookHomes.{HookHomes, IsHere, sized}
-use Rattle.word_lowering.proofs.HookLeads.{AreHandle}
+use Rattle.word_lowering.proofs.HookLeads.{AreHandle, own_handle}
 use Rattle.word_lowering.proofs.HookSteps.{seq_shape}
 use Rattle.word_lowering.proofs.HookSurroundings.{shape, shaped, surroundings}
 use Rattle.word_lowering.proofs.HookWorlds.{like_beside, memory_next}
@@ -198,7 +198,7 @@ module _ (z : HookHomes) where
           (subst (λ c. IsHeap own_data_at (at_class one_less c w.heap.classes) (with_gone d k).stands back.memory) b.is.class back.gives)))
 
     pub releases_it : Releases z.table (surroundings z) live procs fresh
-    releases_it low top h d w s to rest v ty n p called full own are = by v full own are.are
+    releases_it low top h d w s to rest v ty n p called full own are = by v full own (own_handle z.StandsFixed d (shape z ty) v n p are).are
       where
         by : (v : Value) → IsFull v → is_handle v ≡ true → AreHandle z.StandsFixed d (shape z ty) v n p
             → Comes z.table (surroundings z) live procs fresh low top h d (AnyWord z.table (surroundings z) live procs fresh) s to rest (λ n. release_most)
@@ -286,7 +286,8 @@ module _ (z : HookHomes) where
 
     pub forgets_it : Forgets z.table (surroundings z) live procs fresh
     forgets_it low top h d w m v ty of n p k x typed full are =
-        by v full (subst (λ s. AreHandle z.StandsFixed d s v n p) (seq_shape z.table z.is_table z.have ty of typed) are.are)
+        by v full (subst (λ s. AreHandle z.StandsFixed d s v n p) (seq_shape z.table z.is_table z.have ty of typed)
+        (own_handle z.StandsFixed d (shape z ty) v n p are).are)
       where
         by : (v : Value) → IsFull v → AreHandle z.StandsFixed d (elements (shape z of)) v n p
             → Stays z.table (surroundings z) live procs fresh low top h d m (perform (refills (block_of v) (Elements (first_of k (elements_of w v)))) w)

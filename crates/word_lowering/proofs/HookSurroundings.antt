@@ -17,7 +17,7 @@ use Rattle.word_code.proofs.ForCallers.{Sized}
 use Rattle.hook_lifting.proofs.ForCallers.{form_at}
 use Rattle.hook_code.specs.HookCode.{bytes_at as size_at, bytes_all, parts_in, part_at}
 use Rattle.hook_code.specs.Surroundings.{Hand as HookHand, with_one, IsHandled, IsDistinct, plain_parts, IsFull, element_address}
-use Rattle.hook_code.specs.Surroundings.{IsRead, IsPut, Surroundings}
+use Rattle.hook_code.specs.Surroundings.{IsRead, IsPut, Stays, StaysIf, Surroundings}
 use Rattle.word_lowering.specs.Stored.{bytes_all as all_bytes}
 use Rattle.word_lowering.proofs.Options.{none_some}
 use Rattle.word_lowering.proofs.TypeShapes.{type_bytes}
@@ -32,10 +32,10 @@ use Rattle.word_lowering.proofs.StoredLater.{stored_kept}
 use Rattle.word_lowering.proofs.RoutineMemory.{same_word}
 use Rattle.word_lowering.proofs.HookHere.{pops, ascends_less, ascends_past, whole_less}
 use Rattle.word_lowering.proofs.HookHomes.{HookHomes, IsHere, sized, start_here, led_open}
-use Rattle.word_lowering.proofs.HookLeads.{IsHandle, AreHandle, Leads, leads_small, leads_later, leads_read, leads_more, to_step, to_element, element_word}
-use Rattle.word_lowering.proofs.HookLeads.{handle_later, shortened, hand_leads}
+use Rattle.word_lowering.proofs.HookLeads.{IsHandle, AreHandle, IsSomeHandle, Leads, leads_small, leads_later, leads_read, leads_more, to_step, to_element}
+use Rattle.word_lowering.proofs.HookLeads.{element_word, own_handle, some_later, some_small, shortened, hand_leads}
 use Rattle.word_lowering.proofs.HookSteps.{shape_at, tuple_step, object_step, array_step, seq_shape, text_shape, base_shape}
-use Rattle.word_lowering.proofs.HookWords.{IsBlocky, reads_there, puts_there, empties_there, comes_under_way, free_open, free_written}
+use Rattle.word_lowering.proofs.HookWords.{IsBlocky, reads_there, stays_there, puts_there, empties_there, comes_under_way, free_open, free_written}
 use Rattle.word_lowering.proofs.HookWords.{behind_is, handle_stands, may_first, may_second, both_put, both_sized, both_written, first_reads, second_reads}
 use Rattle.word_lowering.proofs.HookWorlds.{like_beside, memory_grown, memory_shrunk}
 
@@ -88,8 +88,8 @@ module _ (z : HookHomes) where
   abbrev pub IsLed : Bool → HookHand → Blocks → Location → (a ty : ℕ) → Type 0
   IsLed o h d l a ty = Leads z.StandsFixed z.Homes z.first o (shaped h) d l a (shape ty)
 
-  abbrev pub AreWords : Blocks → (ty : ℕ) → Value → (n p : ℕ) → Type 0
-  AreWords d ty v n p = IsHandle z.StandsFixed d (shape ty) v n p
+  abbrev pub AreWords : (own : Bool) → Blocks → (ty : ℕ) → Value → (n p : ℕ) → Type 0
+  AreWords o d ty v n p = IsSomeHandle z.StandsFixed o d (shape ty) v n p
 
   pub part_led : (o : Bool) (h : HookHand) (d : Blocks) (l : Location) (a ty i of : ℕ) → slice_get (plain_parts (slice_get z.table ty)) i ≡ Some of
       → IsLed o h d l a ty → IsLed o h d (deeper l i) ((a + part_at z.table ty i) % 2 ^ 32) of
@@ -119,12 +119,12 @@ module _ (z : HookHomes) where
       (array_step z.table z.is_table z.have ty n i of e less) x)
 
   pub element_led : (o : Bool) (h : HookHand) (d : Blocks) (l : Location) (v : Value) (a ty n p i of : ℕ) → slice_get z.table ty ≡ Some (D.Seq of) → IsFull v
-      → AreWords d ty v n p → i < length_of v → IsLed o h d l a ty → IsLed o h d (item_of v l i) (element_address p i (size_at z.table of)) of
-  element_led o h d l v a ty n p i of e full are less x =
+      → AreWords o d ty v n p → StaysIf o l v → i < length_of v → IsLed o h d l a ty → IsLed o h d (item_of v l i) (element_address p i (size_at z.table of)) of
+  element_led o h d l v a ty n p i of e full are stays less x =
       subst (λ k. IsLed o h d (item_of v l i) k of)
       (ap (λ b. (p + i * b) % 2 ^ 32) (sym (type_bytes z.table z.is_table z.have of)) ∙ sym (element_word p i (size_at z.table of)))
       (to_element z.StandsFixed z.Homes z.first o (shaped h) d l (shape of) v n p i (sure v full)
-      (subst (λ s. IsHandle z.StandsFixed d s v n p) (seq_shape z.table z.is_table z.have ty of e) are) less)
+      (subst (λ s. IsSomeHandle z.StandsFixed o d s v n p) (seq_shape z.table z.is_table z.have ty of e) are) stays less)
 
   pub base_led : (o : Bool) (h : HookHand) (d : Blocks) (l : Location) (a ty base : ℕ) → IsDistinct (slice_get z.table ty) base → IsLed o h d l a ty
       → IsLed o h d l a base
@@ -142,8 +142,9 @@ module _ (z : HookHomes) where
 
   -- ---- handles
 
-  pub length_same : (d : Blocks) (v : Value) (ty n p : ℕ) → IsFull v → AreWords d ty v n p → length_of v ≡ n
-  length_same d v ty n p full are = by (shape ty) v full are.are
+  pub length_same : (o : Bool) (d : Blocks) (v : Value) (ty n p : ℕ) → IsFull v → AreWords o d ty v n p → length_of v ≡ n
+  length_same o d v ty n p full (inr q) = ap length_of q.value ∙ sym q.length
+  length_same o d v ty n p full (inl are) = by (shape ty) v full are.are
     where
       by : (s : Shape) (v : Value) → IsFull v → AreHandle z.StandsFixed d s v n p → length_of v ≡ n
       by s Vacant full are = absurd full
@@ -151,12 +152,13 @@ module _ (z : HookHomes) where
       by block (Fixed text) full are = sym are.0
       by s v full are = absurd are
 
-  pub less_words : (d : Blocks) (v : Value) (ty of n p k : ℕ) → slice_get z.table ty ≡ Some (D.Seq of) → IsFull v → AreWords d ty v n p → k ≤ length_of v
-      → AreWords d ty (Handle k (block_of v)) k p
+  pub less_words : (d : Blocks) (v : Value) (ty of n p k : ℕ) → slice_get z.table ty ≡ Some (D.Seq of) → IsFull v → AreWords true d ty v n p
+      → k ≤ length_of v → AreWords true d ty (Handle k (block_of v)) k p
   less_words d v ty of n p k e full are less =
       let is = seq_shape z.table z.is_table z.have ty of e in
-      subst (λ s. IsHandle z.StandsFixed d s (Handle k (block_of v)) k p) (sym is)
-      (shortened z.StandsFixed d (shape of) v n p k (sure v full) (subst (λ s. IsHandle z.StandsFixed d s v n p) is are) less)
+      inl (subst (λ s. IsHandle z.StandsFixed d s (Handle k (block_of v)) k p) (sym is)
+      (shortened z.StandsFixed d (shape of) v n p k (sure v full)
+      (subst (λ s. IsHandle z.StandsFixed d s v n p) is (own_handle z.StandsFixed d (shape ty) v n p are)) less))
 
   -- ---- what holds
 
@@ -172,19 +174,23 @@ module _ (z : HookHomes) where
         let s = q.small in let e = f.word in omega (arith, s, e)
 
   pub reads_words : (o : Bool) (low top : ℕ) (h : HookHand) (d : Blocks) (w : World) (m : Memory) (l : Location) (a ty : ℕ) → Holds low top h d w m
-      → IsLed o h d l a ty → IsHandled (slice_get z.table ty) → is_there w l ≡ true → IsRead (λ n p. AreWords d ty (load w l) n p) m a
+      → IsLed o h d l a ty → IsHandled (slice_get z.table ty) → is_there w l ≡ true → IsRead (λ n p. AreWords o d ty (load w l) n p) m a
   reads_words o low top h d w m l a ty x f is live =
-      subst (λ k. IsRead (λ n p. AreWords d ty (load w l) n p) m k) (sym (at_word low top h d w m l a ty o x f live))
+      subst (λ k. IsRead (λ n p. AreWords o d ty (load w l) n p) m k) (sym (at_word low top h d w m l a ty o x f live))
       (reads_there z low top (shaped h) d w m x o l f.at (shape ty) (blocky ty is) f.led live)
+
+  pub stays_words : (low top : ℕ) (h : HookHand) (d : Blocks) (w : World) (m : Memory) (l : Location) (a ty : ℕ) → Holds low top h d w m
+      → IsLed false h d l a ty → IsHandled (slice_get z.table ty) → is_there w l ≡ true → Stays l (load w l)
+  stays_words low top h d w m l a ty x f is live = stays_there z low top (shaped h) d w m x false l f.at (shape ty) (blocky ty is) f.led live
 
   abbrev Behind : (low top : ℕ) → HookHand → Blocks → World → Memory → Type 0
   Behind low top h d w other = (e : Blocks) × AreLater d e × Holds low top h e w other
 
   pub puts_words : (low top : ℕ) (h : HookHand) (d : Blocks) (w : World) (m : Memory) (l : Location) (a ty : ℕ) → Holds low top h d w m → IsLed true h d l a ty
-      → IsHandled (slice_get z.table ty) → is_there w l ≡ true → (v : Value) (n p : ℕ) → AreWords d ty v n p
+      → IsHandled (slice_get z.table ty) → is_there w l ≡ true → (v : Value) (n p : ℕ) → AreWords true d ty v n p
       → IsPut (λ other. Behind low top h d (store w l v) other) m a n p
   puts_words low top h d w m l a ty x f is live v n p are =
-      let q = puts_there z low top (shaped h) d w m x l f.at (shape ty) (blocky ty is) f.led live v n p are in
+      let q = puts_there z low top (shaped h) d w m x l f.at (shape ty) (blocky ty is) f.led live v n p (own_handle z.StandsFixed d (shape ty) v n p are) in
       let t = q.then in
       subst (λ k. IsPut (λ other. Behind low top h d (store w l v) other) m k n p) (sym (at_word low top h d w m l a ty true x f live))
       (record { first = q.first; second = q.second; then = (t.after, t.ahead, t.then) })
@@ -226,9 +232,10 @@ module _ (z : HookHomes) where
       nothing t is = absurd is
 
   pub pushes_words : (low top : ℕ) (h : HookHand) (d : Blocks) (w : World) (m : Memory) (ty : ℕ) → Holds low top h d w m → IsHandled (slice_get z.table ty)
-      → low + LIST_BYTES ≤ top → (v : Value) (n p : ℕ) → AreWords d ty v n p
+      → low + LIST_BYTES ≤ top → (v : Value) (n p : ℕ) → AreWords true d ty v n p
       → IsPut (λ other. Holds (low + LIST_BYTES) top (with_one h low ty) d (pushed w v) other) m low n p
-  pushes_words low top h d w m ty x is room v n p are =
+  pushes_words low top h d w m ty x is room v n p words =
+      let are = own_handle z.StandsFixed d (shape ty) v n p words in
       let s = sized z low top (shaped h) d w m x in
       let o = free_open z low top (shaped h) d w m x room in
       let next : low + 4 ≡ (low + 4) % 2 ^ 32 = behind_is low o.small in
@@ -401,9 +408,9 @@ module _ (z : HookHomes) where
     leads_later = λ o h d e l a ty ahead f. leads_later z.StandsFixed z.Homes z.first o (shaped h) d e ahead l a (shape ty) f;
     leads_read = λ h d l a ty f. leads_read z.StandsFixed z.Homes z.first (shaped h) d l a (shape ty) f;
     leads_more = more_led;
-    handle_later = λ d e v ty n p ahead are. handle_later z.StandsFixed d e ahead (shape ty) v n p are;
+    handle_later = λ o d e v ty n p ahead are. some_later z.StandsFixed o d e ahead (shape ty) v n p are;
     leads_small = λ o h d l a ty f. leads_small z.StandsFixed z.Homes z.first o (shaped h) d l a (shape ty) f;
-    handle_small = λ d v ty n p are. (are.few, are.near);
+    handle_small = λ o d v ty n p are. some_small z.StandsFixed o d (shape ty) v n p are;
     to_part = part_led;
     to_member = member_led;
     to_element = element_led;
@@ -411,6 +418,7 @@ module _ (z : HookHomes) where
     length_is = length_same;
     shortened = less_words;
     reads = reads_words;
+    stays = stays_words;
     puts = puts_words;
     empties = empties_words;
     hand_long = λ low top h d w m x. x.here.long ∙ ap (λ n. z.first + n) (shaped_long h);

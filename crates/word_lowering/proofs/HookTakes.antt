@@ -236,7 +236,7 @@ module _ (z : HookHomes) (live : Lives) (none : (m : Memory) → live (as_state 
 
     abbrev Came_so : Done Value → Type 0
     Came_so done =
-        Comes z.table (surroundings z) live procs fresh_bytes low top h d (λ v e word. IsFull v × AreWords z e ty v n (word % 2 ^ 32)) s to rest
+        Comes z.table (surroundings z) live procs fresh_bytes low top h d (λ v e word. IsFull v × AreWords z true e ty v n (word % 2 ^ 32)) s to rest
         (λ k. take_most + 4 * k) done
 
     abbrev taken : Done Value
@@ -286,7 +286,7 @@ module _ (z : HookHomes) (live : Lives) (none : (m : Memory) → live (as_state 
           l (Handle n (block_fresh w.heap bytes)) back.memory
       f = fresh_put z low top h d w m x l a ty leads blocky n bytes all w1 is_fresh.is.heap is_fresh.is.frames is_fresh.is.hand came.3 live_then back.memory q
 
-      is_back : IsBack z.table (surroundings z) live procs fresh_bytes low top h d (λ e word. IsFull u × AreWords z e ty u n (word % 2 ^ 32)) s to rest
+      is_back : IsBack z.table (surroundings z) live procs fresh_bytes low top h d (λ e word. IsFull u × AreWords z true e ty u n (word % 2 ^ 32)) s to rest
           (store w1 l u) (take_most + 4 * (k + 0))
       is_back = record {
         memory = back.memory;
@@ -297,8 +297,8 @@ module _ (z : HookHomes) (live : Lives) (none : (m : Memory) → live (as_state 
         here = subst (λ i. IsHere z low top (shaped z h) f.after (store w1 l i) back.memory) (sym value)
             (put_here z low top h d w m x l a ty leads blocky n bytes all w1 is_fresh.is.heap is_fresh.is.frames is_fresh.is.hand came.3 live_then
             back.memory q);
-        gives = subst (λ i. IsFull i × AreWords z f.after ty i n (back.word % 2 ^ 32)) (sym value)
-            (tt, handle_later z.StandsFixed q.after f.after f.ahead (shape z ty) (Handle n (block_fresh w.heap bytes)) n (back.word % 2 ^ 32) handle_so);
+        gives = subst (λ i. IsFull i × AreWords z true f.after ty i n (back.word % 2 ^ 32)) (sym value)
+            (tt, inl (handle_later z.StandsFixed q.after f.after f.ahead (shape z ty) (Handle n (block_fresh w.heap bytes)) n (back.word % 2 ^ 32) handle_so));
         lines = back.lines;
         few = (let g = back.few in let c = few_lines k came.1 in omega (arith, g, c));
         behind = (back.steps fresh_bytes s.0).0;
@@ -338,6 +338,6 @@ module _ (z : HookHomes) (live : Lives) (none : (m : Memory) → live (as_state 
 
   pub takes_it : Takes z.table (surroundings z) live procs fresh_bytes
   takes_it low top h d w s to rest l a ty n of called leads entry few =
-      subst (λ f. Comes z.table (surroundings z) live procs fresh_bytes low top h d (λ v e word. IsFull v × AreWords z e ty v n (word % 2 ^ 32)) s to rest
+      subst (λ f. Comes z.table (surroundings z) live procs fresh_bytes low top h d (λ v e word. IsFull v × AreWords z true e ty v n (word % 2 ^ 32)) s to rest
       (λ k. take_most + 4 * k) (perform (taken_for (element_of f) n l) w)) (sym (form_at z.table z.is_table z.have ty (D.Seq of) entry))
       (sequence_taken low top h d w s to rest l a ty n of called.calling called.here leads entry few)

@@ -33,7 +33,16 @@ module _ (x : Basis) (g : Both) (line : BlockLine) (rest : List BlockLine) (y : 
   in_heap b n long (inl h) = inl (omega (arith, h.1))
   in_heap b n long (inr h) = inl (omega (arith, h.1))
 
-  -- beside homes that lie at names
+  -- what stands in the data is before all that hooks use, and beside homes that lie at names
+  pub fixed_before : (place : ℕ) (text : List ℕ) → is_fixed g.ground place text → place + length text ≤ next_base (sites_of (starts g line rest))
+  fixed_before place text is = before place (length text) (fixed_text x (starts g line rest) y place text is).among.0
+
+  pub fixed_aside : (place : ℕ) (text : List ℕ) → is_fixed g.ground place text → (h : Home)
+      → Lying x (sites_of (starts g line rest)) y.linked h.at (home_bytes h) → Beside place (length text) h.at (home_bytes h)
+  fixed_aside place text is h lies =
+      text_beside x (sites_of (starts g line rest)) y.linked h.at (home_bytes h) place (length text) lies
+      (fixed_text x (starts g line rest) y place text is).among
+
   module _ (Homes : Home → Type 0) (lying : (h : Home) → Homes h → IsOwn h.base → Lying x (sites_of (starts g line rest)) y.linked h.at (home_bytes h))
       (m : Memory) (like : IsMemoryLike Homes (next_base (sites_of (starts g line rest))) g.memory m) where
     text_alike : (b n : ℕ) → IsText x.table x.blocks b n → bytes_at m b n ≡ bytes_at x.first b n

@@ -182,7 +182,7 @@ module _ (x : Basis) (g : Both) (line : BlockLine) (rest : List BlockLine) (y : 
         word = omega (arith, near);
         led = inl (record {
           home = home_at x (starts g line rest) g.call (of_waiting node) v;
-          among = inl (inl (record {
+          among = inl (record {
             home = record {
               call = g.call;
               among = inl refl;
@@ -194,7 +194,7 @@ module _ (x : Basis) (g : Both) (line : BlockLine) (rest : List BlockLine) (y : 
               is = refl;
             };
             hooked = hooked;
-          }));
+          });
           base = refl;
           offset = 0;
           way = (refl, look);

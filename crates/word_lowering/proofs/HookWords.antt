@@ -1,28 +1,35 @@
 -- The two words of a handle where hooks are: what they read, and what is true where they put others.
-use Rattle.std.proofs.Common.{◌≡◌, inl, inr, ℕ, ◌+◌, ◌%◌, ◌^◌, ◌<◌, ◌≤◌, Bool, true, List, [], ◌∷◌, ◌++◌, length, Option, Ok}
+use Rattle.std.proofs.Common.{◌≡◌, ◌⊎◌, inl, inr, ℕ, ◌+◌, ◌%◌, ◌^◌, ◌<◌, ◌≤◌, Bool, true, List, [], ◌∷◌, ◌++◌, length, Option, Ok}
 use Rattle.std.proofs.Common.{refl, sym, ap, subst, ◌∙◌, arith}
 use Rattle.std.specs.Prelude.{◌==◌, ◌&&◌}
+use Rattle.std.proofs.lemmas.Bool.{true≢false}
 use Rattle.nim_types.specs.declared.types.TheConstants.{LIST_BYTES}
-use Rattle.nim_meaning.specs.Values.{Value, Handle, Fixed, Vacant, Base, Standing, Waiting, InBlock, InHand, InException, Made, Location}
-use Rattle.nim_meaning.specs.State.{World, load, stored, store, is_there, pushed}
+use Rattle.nim_meaning.specs.Values.{Value, Parts, Handle, Fixed, Vacant, count, part, Base, Standing, Waiting, InBlock, InHand, InException, Made, Location}
+use Rattle.nim_meaning.specs.State.{World, load, stored, store, whole_at, is_there, pushed}
+use Rattle.flat_code.specs.Pieces.{words_bytes}
 use Rattle.flat_code.specs.Shapes.{Shape, block, elements}
 use Rattle.rv32_isa.specs.declared.micro_op.Size.TheVariants.{Word}
 use Rattle.word_code.specs.Memory.{Memory, as_state, number_at, may_put, with_number}
 use Rattle.word_code.specs.RoutineTable.{Beside, IsRewritten}
 use Rattle.word_code.proofs.ForCallers.{Sized, sizes_same, sizes_more, store_rewritten, store_sized, put_here}
-use Rattle.hook_code.specs.Surroundings.{behind, IsRead, IsPut}
+use Rattle.hook_code.specs.Surroundings.{behind, IsRead, IsPut, Stays}
 use Rattle.word_lowering.proofs.RoutineMemory.{same_word}
-use Rattle.word_lowering.proofs.ShapeFacts.{shape_bytes}
+use Rattle.word_lowering.proofs.ShapeFacts.{shape_bytes, of_numbers, values_of_numbers}
 use Rattle.word_lowering.proofs.Blocks.{Blocks, AreLater, IsHandle as StoresHandle, IsPlace, IsEmptyIf, Stored}
 use Rattle.word_lowering.proofs.BlockHomes.{IsOutside}
 use Rattle.word_lowering.proofs.CallPlaces.{place_cell}
+use Rattle.word_lowering.proofs.FixedParts.{fixed_sequence, fixed_text, fixed_words, number_words}
+use Rattle.word_lowering.proofs.FixedValues.{FixedAt}
+use Rattle.word_lowering.proofs.FixedWords.{words_shaped}
 use Rattle.word_lowering.proofs.Frames.{length_set}
 use Rattle.word_lowering.proofs.HandHomes.{Hand, AllHomes, in_range, written_behind}
 use Rattle.word_lowering.proofs.HookHere.{Here, pushes, whole_more}
-use Rattle.word_lowering.proofs.HookHomes.{HookHomes, IsOpen, IsHere, Led, sized, start_here, led_open, led_beside}
-use Rattle.word_lowering.proofs.HookLeads.{IsHandle, AreHandle, stored_there, put_there}
+use Rattle.word_lowering.proofs.HookHomes.{HookHomes, IsOpen, IsHere, Led, sized, start_here, led_open, led_beside, data_there}
+use Rattle.word_lowering.proofs.HookLeads.{IsHandle, AreHandle, IsSomeHandle, Held, InFixed, stored_there, put_there}
 use Rattle.word_lowering.proofs.HookWorlds.{MayChange, home_changes, like_beside, like_stored, memory_written}
+use Rattle.word_lowering.proofs.NumbersStored.{at_numbers}
 use Rattle.word_lowering.proofs.OpenCells.{cell_by}
+use Rattle.word_lowering.proofs.PieceWords.{WordsAt, by_words}
 
 -- ---- shapes of handles
 
@@ -181,7 +188,8 @@ module _ (z : HookHomes) (m : Memory) (sized_m : Sized m) (a n p : ℕ) (o : IsO
 
 module _ (z : HookHomes) (low top : ℕ) (hand : Hand) (d : Blocks) (w : World) (m : Memory) (x : IsHere z low top hand d w m) where
   may_change : (l : Location) (at : ℕ) (t : Shape) → Led z low top hand d w m x true l at t → MayChange z.Homes w l.base
-  may_change l at t (inr f) = subst (MayChange z.Homes w) (sym f.base) tt
+  may_change l at t (inr (inl f)) = subst (MayChange z.Homes w) (sym f.base) tt
+  may_change l at t (inr (inr f)) = absurd (true≢false f.lent)
   may_change l at t (inl f) = subst (MayChange z.Homes w) (sym f.base) (by f.among)
     where
       by : AllHomes z.StandsFixed z.Homes z.apart z.start z.under z.first z.others hand f.home → MayChange z.Homes w f.home.base
@@ -222,12 +230,121 @@ module _ (z : HookHomes) (low top : ℕ) (hand : Hand) (d : Blocks) (w : World) 
 
   -- ---- at a location
 
+  abbrev ReadAt : (own : Bool) → Shape → Value → (at : ℕ) → Type 0
+  ReadAt own t v at = IsRead (λ n p. IsSomeHandle z.StandsFixed own d t v n p) m at
+
+  abbrev IsHeld : (own : Bool) → Location → (at : ℕ) → Shape → Type 0
+  IsHeld own l at t = Held z.StandsFixed z.Homes z.apart z.start z.under z.first z.others hand low x.here.up d w m x.here.holds own l at t
+
+  -- what stands in a home or in a block
+  module _ (own : Bool) (l : Location) (at : ℕ) (t : Shape) (is : IsBlocky t) (is_open : IsOpen m at 8) (live : is_there w l ≡ true) (f : IsHeld own l at t)
+    where
+      stands_held : Stored z.StandsFixed d m at t (load w l)
+      stands_held = stored_there z.StandsFixed z.Homes z.apart z.start z.under z.first z.others hand low x.here.up d w m x.here.holds own l at t f live
+
+      held_read : ReadAt own t (load w l) at
+      held_read =
+          let r = handle_read z.StandsFixed d m (sized z low top hand d w m x) t (load w l) at is is_open stands_held in
+          record { length = r.length; place = r.place; first = r.first; second = r.second; are = inl r.are }
+
+      held_stays : Stays l (load w l)
+      held_stays = by t (load w l) is stands_held
+        where
+          by : (t : Shape) (v : Value) → IsBlocky t → Stored z.StandsFixed d m at t v → Stays l v
+          by block (Parts all) is st = absurd st
+          by block v is st = tt
+          by (elements s) (Parts all) is st = absurd st
+          by (elements s) v is st = tt
+          by t v is st = absurd is
+
+  -- what stands in a constant
+  module _ (own : Bool) (l : Location) (at : ℕ) (t : Shape) (f : InFixed z.StandsFixed z.Homes z.first own l at t) where
+    load_fixed : load w l ≡ part f.root l.path
+    load_fixed = ap (λ b. part (whole_at w b) l.path) f.base
+
+    fixed_at : FixedAt z.StandsFixed at t (load w l)
+    fixed_at = subst (FixedAt z.StandsFixed at t) (sym load_fixed) f.fixed
+
+    fixed_numbers : of_numbers t ≡ true → Stored z.StandsFixed d m at t (load w l)
+    fixed_numbers numbers =
+        let shaped = words_shaped z.StandsFixed fixed_at.words t (load w l) fixed_at.are in
+        at_numbers z.StandsFixed d m at t (load w l) numbers shaped
+        (by_words m at (load w l) (values_of_numbers (load w l) t numbers shaped)
+        (subst (WordsAt m at) (number_words z.StandsFixed fixed_at.words t (load w l) numbers fixed_at.are)
+        (fixed_words z.StandsFixed m (sized z low top hand d w m x) (data_there z low top hand d w m x) at t (load w l) fixed_at)))
+
+    fixed_block : t ≡ block → Stored z.StandsFixed d m at t (load w l)
+    fixed_block is =
+        let q = fixed_text z.StandsFixed m (sized z low top hand d w m x) (data_there z low top hand d w m x) at (load w l)
+        (subst (λ s. FixedAt z.StandsFixed at s (load w l)) is fixed_at) in
+        subst (λ s. Stored z.StandsFixed d m at s (load w l)) (sym is) (subst (Stored z.StandsFixed d m at block) (sym q.1) q.2)
+
+    fixed_read : IsOpen m at 8 → IsBlocky t → ReadAt own t (load w l) at
+    fixed_read is_open is = by t is fixed_at
+      where
+        by : (t : Shape) → IsBlocky t → FixedAt z.StandsFixed at t (load w l) → ReadAt own t (load w l) at
+        by block is fixed =
+            let q = fixed_text z.StandsFixed m (sized z low top hand d w m x) (data_there z low top hand d w m x) at (load w l) fixed in
+            let r = handle_read z.StandsFixed d m (sized z low top hand d w m x) block (Fixed q.0) at tt is_open q.2 in
+            subst (λ v. ReadAt own block v at) (sym q.1)
+            (record { length = r.length; place = r.place; first = r.first; second = r.second; are = inl r.are })
+        by (elements s) is fixed =
+            let q = fixed_sequence z.StandsFixed m (sized z low top hand d w m x) (data_there z low top hand d w m x) at s (load w l) fixed in
+            let h = q.2 in
+            record {
+              length = count q.0;
+              place = h.place;
+              first = h.long;
+              second = subst (λ b. number_at m b Word ≡ Ok h.place) (behind_is at is_open.small) h.there;
+              are = inr (record {
+                of = s;
+                all = q.0;
+                shape = refl;
+                value = q.1;
+                lent = f.lent;
+                few = (let e = h.few in omega (arith, e));
+                near = (let e = h.near in omega (arith, e));
+                length = (let e = h.few in omega (arith, e));
+                words = h.words;
+                whole = (let e = h.near in let o = h.whole in omega (arith, e, o));
+                stands = subst (λ p. z.StandsFixed p (words_bytes h.words)) (sym (small_rest h.place h.near)) h.stands;
+                are = h.are;
+              });
+            }
+        by t is fixed = absurd is
+
+    fixed_stays : Stays l (load w l)
+    fixed_stays = by (load w l) (sym load_fixed)
+      where
+        by : (v : Value) → part f.root l.path ≡ v → Stays l v
+        by (Parts all) e = (f.root, f.base, e)
+        by v e = tt
+
+  abbrev open_words : (own : Bool) (l : Location) (at : ℕ) (t : Shape) → IsBlocky t → Led z low top hand d w m x own l at t → is_there w l ≡ true → IsOpen
+      m at 8
+  open_words own l at t is f live = subst (λ n. IsOpen m at n) (blocky_bytes t is) (led_open z low top hand d w m x own l at t f live)
+
   pub reads_there : (own : Bool) (l : Location) (at : ℕ) (t : Shape) → IsBlocky t → Led z low top hand d w m x own l at t → is_there w l ≡ true
-      → IsRead (λ n p. IsHandle z.StandsFixed d t (load w l) n p) m at
-  reads_there own l at t is f live =
-      handle_read z.StandsFixed d m (sized z low top hand d w m x) t (load w l) at is
-      (subst (λ n. IsOpen m at n) (blocky_bytes t is) (led_open z low top hand d w m x own l at t f live))
-      (stored_there z.StandsFixed z.Homes z.apart z.start z.under z.first z.others hand low x.here.up d w m x.here.holds own l at t f live)
+      → ReadAt own t (load w l) at
+  reads_there own l at t is (inl f) live = held_read own l at t is (open_words own l at t is (inl f) live) live (inl f)
+  reads_there own l at t is (inr (inl f)) live = held_read own l at t is (open_words own l at t is (inr (inl f)) live) live (inr f)
+  reads_there own l at t is (inr (inr f)) live = fixed_read own l at t f (open_words own l at t is (inr (inr f)) live) is
+
+  pub stays_there : (own : Bool) (l : Location) (at : ℕ) (t : Shape) → IsBlocky t → Led z low top hand d w m x own l at t → is_there w l ≡ true
+      → Stays l (load w l)
+  stays_there own l at t is (inl f) live = held_stays own l at t is (open_words own l at t is (inl f) live) live (inl f)
+  stays_there own l at t is (inr (inl f)) live = held_stays own l at t is (open_words own l at t is (inr (inl f)) live) live (inr f)
+  stays_there own l at t is (inr (inr f)) live = fixed_stays own l at t f
+
+  -- what has no elements is stored wherever it is
+  pub stands_there : (own : Bool) (l : Location) (at : ℕ) (t : Shape) → (of_numbers t ≡ true) ⊎ (t ≡ block) → Led z low top hand d w m x own l at t
+      → is_there w l ≡ true → Stored z.StandsFixed d m at t (load w l)
+  stands_there own l at t simple (inl f) live =
+      stored_there z.StandsFixed z.Homes z.apart z.start z.under z.first z.others hand low x.here.up d w m x.here.holds own l at t (inl f) live
+  stands_there own l at t simple (inr (inl f)) live =
+      stored_there z.StandsFixed z.Homes z.apart z.start z.under z.first z.others hand low x.here.up d w m x.here.holds own l at t (inr f) live
+  stands_there own l at t (inl numbers) (inr (inr f)) live = fixed_numbers own l at t f numbers
+  stands_there own l at t (inr is) (inr (inr f)) live = fixed_block own l at t f is
 
   pub puts_there : (l : Location) (at : ℕ) (t : Shape) → IsBlocky t → (f : Led z low top hand d w m x true l at t) → is_there w l ≡ true → (v : Value)
       → (n p : ℕ) → IsHandle z.StandsFixed d t v n p → IsPut (λ other. IsThen l v other) m at n p

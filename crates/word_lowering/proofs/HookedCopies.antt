@@ -1,6 +1,6 @@
 -- Lines that get what stands at a location where it has hooks: it is copied, unless it is only looked at, and then handed on, or waits where it is used.
-use Rattle.std.proofs.Common.{◌≡◌, ◌⊎◌, inl, inr, ℕ, List, Bool, true, false, Option, Some, None, refl, sym, ap₂, subst, ◌∙◌}
-use Rattle.std.specs.Prelude.{◌&&◌}
+use Rattle.std.proofs.Common.{◌≡◌, ◌⊎◌, inl, inr, ℕ, List, Bool, true, false, Option, Some, None, refl, sym, ap, ap₂, subst, ◌∙◌}
+use Rattle.std.specs.Prelude.{◌&&◌, not}
 use Rattle.std.proofs.lemmas.Bool.{and_parts, cases_Bool}
 use Rattle.nim_plan.specs.declared.plan.Act.{Act}
 use Rattle.nim_types.specs.Forms.{Form}
@@ -26,6 +26,9 @@ use Rattle.flat_code.specs.Codes.{block_does, block_plain}
 use Rattle.flat_code.specs.Fits.{is_location, is_value}
 use Rattle.flat_code.specs.Lines.{form_in, gives, using_place}
 use Rattle.flat_code.specs.Running.{scene_of}
+use Rattle.flat_code.specs.Shapes.{Shape, shape_of}
+use Rattle.nim_types.specs.declared.types.TypeDef.{TypeDef}
+use Rattle.nim_types.specs.declared.types.TypeDef.TheVariants as D
 use Rattle.flat_code.specs.Scene.{known_in, location_at}
 use Rattle.flat_code.specs.Waits.{used_at, waits_right}
 use Rattle.word_code.specs.declared.word.WordInstr.{WordInstr}
@@ -33,20 +36,25 @@ use Rattle.word_lowering.specs.declared.homes.Alias.TheVariants as alias
 use Rattle.word_lowering.specs.declared.homes.Waiter.{Waiter}
 use Rattle.word_lowering.specs.Aliases.{alias_by, value_to}
 use Rattle.word_lowering.specs.LineCode.{behind_line, got_code, is_copied, location, value}
-use Rattle.word_lowering.specs.Stored.{is_hooked}
+use Rattle.word_lowering.specs.OwnedCode.{is_text}
+use Rattle.word_lowering.specs.Stored.{entry_at, is_hooked}
 use Rattle.word_lowering.specs.WaitingCode.{kept_if}
 use Rattle.word_lowering.proofs.AllOperands.{using_completes}
 use Rattle.word_lowering.proofs.ControlLines.{plain}
 use Rattle.word_lowering.proofs.HookBasis.{HookBasis}
 use Rattle.word_lowering.proofs.HookedHere.{hooked_named}
-use Rattle.word_lowering.proofs.HookedLines.{get_copied, value_many}
-use Rattle.word_lowering.proofs.HookedMoves.{get_bits, take_bits}
+use Rattle.word_lowering.proofs.HookedLines.{get_copied}
+use Rattle.word_lowering.proofs.BitRows.{many_value}
+use Rattle.word_lowering.proofs.HookFree.{got_looked}
+use Rattle.word_lowering.proofs.HookedMoves.{bits_target}
+use Rattle.word_lowering.proofs.JoinedTypes.{text_entry}
+use Rattle.word_lowering.proofs.LookedBits.{looked_bits}
+use Rattle.word_lowering.proofs.TypeShapes.{Looks, type_looks}
 use Rattle.word_lowering.proofs.HookedTypes.{HookedType}
-use Rattle.word_lowering.proofs.HouseHooks.{homed}
 use Rattle.word_lowering.proofs.KeptCode.{value_waits}
 use Rattle.word_lowering.proofs.KeptLines.{WaitsAt}
 use Rattle.word_lowering.proofs.LineFits.{are_of}
-use Rattle.word_lowering.proofs.Lines.{Basis, Completes, IsGood, bound_for, completes_quiet, fits_here, known, starts, Whole}
+use Rattle.word_lowering.proofs.Lines.{Basis, Completes, IsGood, Settles, bound_for, completes_quiet, fits_here, known, starts, using_settles, Whole}
 use Rattle.word_lowering.proofs.MadeValues.{made_completes}
 use Rattle.word_lowering.proofs.Related.{Both, body_of, high}
 use Rattle.word_lowering.proofs.Scenes.{house, looked, of_location, of_value}
@@ -55,7 +63,7 @@ use Rattle.word_lowering.proofs.ShapeFacts.{never}
 use Rattle.word_lowering.proofs.Sites.{Body, around, is_one_word}
 use Rattle.word_lowering.proofs.Targets.{texts_behind}
 use Rattle.word_lowering.proofs.UsedValues.{used_there}
-use Rattle.word_lowering.proofs.ValueFacts.{IsHomed, has_type, type_in}
+use Rattle.word_lowering.proofs.ValueFacts.{type_in}
 
 -- ---- by uses
 
@@ -73,6 +81,10 @@ reads_waits u h = refl
 looked_is : (u : Use) → is_copied u ≡ false → u ≡ Looked
 looked_is Looked h = refl
 looked_is u h = never (sym h)
+
+text_is : (o : Option TypeDef) → is_text o ≡ true → o ≡ Some D.Text
+text_is (Some D.Text) h = refl
+text_is o h = never h
 
 module _ (x : Basis) where
   abbrev type_of_number : ℕ → Ty
@@ -97,7 +109,8 @@ module _ (x : Basis) where
   module _ (b : HookBasis x) (g : Both) (line : BlockLine) (rest : List BlockLine) (y : IsGood x (starts g line rest))
       (to from : ℕ) (how : UseAt) (act : Option Act) (n : ℕ) (hooks : is_hooked x.table n ≡ true) (copied_is : is_copied how.how ≡ true)
       (t : Typed g to from n) (gives_it : value_to (block_plain line) ≡ Some to) (own : alias_by (block_plain line) (texts_behind x g line rest y) ≡ alias.Own)
-      (code : code_here x g line rest y ≡ got_code (around x.table x.blocks (body_of g)) (is_hooked x.table n && is_copied how.how) (Some n)
+      (code : code_here x g line rest y ≡ got_code (around x.table x.blocks (body_of g)) (is_hooked x.table n && is_copied how.how)
+      (is_hooked x.table n && not (is_text (entry_at x.table n))) (Some n)
       (house g.call.site (of_value to)) (location (around x.table x.blocks (body_of g)) from) (code_next x g line rest y))
       (waiting : value_waits x.table (block_plain line) ≡ (is_hooked x.table n && reads_kept how.how))
       (code_is : (c : Body) (k : List WordInstr) → behind_line (around x.table x.blocks c) (block_plain line) k
@@ -137,20 +150,38 @@ module _ (x : Basis) where
         (λ c k. code_is c k ∙ ap₂ (λ p q. kept_if x.table c.own.waiters (value (around x.table x.blocks c)) (p && q) how.node to k) hooks
         (reads_waits how.how copied_is))
         waits_there (copied form l)
-        (get_copied x b g line rest y n hooked_here to from gives_it own t.to_typed t.from_typed
-        (code ∙ ap₂ (λ p q. got_code (around x.table x.blocks (body_of g)) (p && q) (Some n) (house g.call.site (of_value to))
-        (location (around x.table x.blocks (body_of g)) from) (code_next x g line rest y)) hooks copied_is) there e))))
+        (get_copied x b g line rest y n hooked_here to gives_it own t.to_typed from t.from_typed
+        (code ∙ ap₂ (λ p q. got_code (around x.table x.blocks (body_of g)) (p && q) (is_hooked x.table n && not (is_text (entry_at x.table n))) (Some n)
+        (house g.call.site (of_value to)) (location (around x.table x.blocks (body_of g)) from) (code_next x g line rest y)) hooks copied_is) there e))))
 
   module _ (b : HookBasis x) (g : Both) (rest : List BlockLine) (to from : ℕ) (how : UseAt) where
-    named_many : (line : BlockLine) (y : IsGood x (starts g line rest)) (n : ℕ) → is_hooked x.table n ≡ true → Typed g to from n
-        → is_one_word (looked x.table g.call.site (of_value to)) ≡ false
-    named_many line y n hooks t =
-        value_many x b g line rest y n (hooked_named x g.call.site y.linked.0 (of_value to) n t.to_typed hooks) to
-        (has_type x g.call.site (of_value to) (type_of_number n) y.linked.0 t.to_typed).named t.to_typed
-
-    homed_here : (line : BlockLine) (y : IsGood x (starts g line rest)) (n : ℕ) → Typed g to from n → IsHomed x g.call.site from
-    homed_here line y n t =
-        homed x g.call.site y.linked.0 from (has_type x g.call.site (of_location from) (type_of_number n) y.linked.0 t.from_typed).named
+    -- by what its entry says
+    looked_here : (line : BlockLine) (y : IsGood x (starts g line rest)) (n : ℕ) → is_hooked x.table n ≡ true → is_copied how.how ≡ false → Typed g to from n
+        → (act : Option Act) → value_to (block_plain line) ≡ Some to → alias_by (block_plain line) (texts_behind x g line rest y) ≡ alias.Own
+        → code_here x g line rest y ≡ got_code (around x.table x.blocks (body_of g)) (is_hooked x.table n && is_copied how.how)
+        (is_hooked x.table n && not (is_text (entry_at x.table n))) (Some n) (house g.call.site (of_value to))
+        (location (around x.table x.blocks (body_of g)) from) (code_next x g line rest y)
+        → Settles x (starts g line rest) rest (using_place g.call.temps from (λ place l. gives (scene_of (high x.table x.blocks (starts g line rest))) to
+        (taken_by (gives_hooked (facts_in x.table) (Some (type_of_number n))) (form_in (known_in x.table) n) (bound_for g how) act l)))
+    looked_here line y n hooks c t act gives_it own code =
+        let s : Shape = shape_of (facts_in x.table) (type_of_number n) in
+        let is = many_value x g line rest y to (type_of_number n) t.to_typed (sym (x.hooks n) ∙ hooks) in
+        let looks : Looks x.table (entry_at x.table n) s = type_looks x.table b.is_table b.have n in
+        using_settles x (starts g line rest) rest (g.call.temps.places from)
+        (λ there. gives (scene_of (high x.table x.blocks (starts g line rest))) to
+        (taken_by (gives_hooked (facts_in x.table) (Some (type_of_number n))) (form_in (known_in x.table) n) (bound_for g how) act
+        (location_at g.call.temps there)))
+        (λ there e. subst (λ h. Settles x (starts g line rest) rest (gives (scene_of (high x.table x.blocks (starts g line rest))) to
+        (taken_by h (form_in (known_in x.table) n) (bound_for g how) act (location_at g.call.temps there)))) (sym hooks ∙ x.hooks n)
+        (looked_bits x g line rest y to n from how act there (looked_is how.how c) hooks
+        (bits_target x g line rest y to (type_of_number n) gives_it own t.to_typed is.many) is.many is.handles t.from_typed e (is_text (entry_at x.table n))
+        (λ h. subst (λ o. Looks x.table o s) (text_is (entry_at x.table n) h) looks)
+        (λ h same. never (sym h ∙ ap is_text (text_entry x.table (entry_at x.table n) s looks same)))
+        (code ∙ got_looked (around x.table x.blocks (body_of g)) (is_hooked x.table n) (is_copied how.how)
+        (is_hooked x.table n && not (is_text (entry_at x.table n))) (Some n) (house g.call.site (of_value to))
+        (location (around x.table x.blocks (body_of g)) from) (code_next x g line rest y) c
+        ∙ ap (λ h. got_code (around x.table x.blocks (body_of g)) false (h && not (is_text (entry_at x.table n))) (Some n) (house g.call.site (of_value to))
+        (location (around x.table x.blocks (body_of g)) from) (code_next x g line rest y)) hooks)))
 
     none_waits : (n : ℕ) → is_hooked x.table n ≡ true → is_copied how.how ≡ false → (is_hooked x.table n && reads_kept how.how) ≡ false
     none_waits n hooks e = ap₂ (λ p u. p && reads_kept u) hooks (looked_is how.how e)
@@ -173,7 +204,7 @@ module _ (x : Basis) where
         by (inl c) = copy_completes b g line rest y to from how None n hooks c t refl refl refl refl (λ u k. refl) refl
         by (inr c) =
             completes_quiet x g line rest (block_does (known x) (scene_of (high x.table x.blocks (starts g line rest))) line) (none_waits n hooks c)
-            (get_bits x g rest to from (named_many line y n hooks t) (homed_here line y n t) how (Some n) (looked_is how.how c) y)
+            (looked_here line y n hooks c t None refl refl refl)
 
     pub take_whole : (act : Option Act) (ty : Option ℕ) → gives_hooked (facts_in x.table) (if_type (known x).types ty) ≡ true
         → Whole x g rest (block_line.Plain (owned_line.Take to from how act ty))
@@ -194,4 +225,4 @@ module _ (x : Basis) where
         by (inl c) = copy_completes b g line rest y to from how act n hooks c t refl refl refl refl (λ u k. refl) refl
         by (inr c) =
             completes_quiet x g line rest (block_does (known x) (scene_of (high x.table x.blocks (starts g line rest))) line) (none_waits n hooks c)
-            (take_bits x g rest to from (named_many line y n hooks t) (homed_here line y n t) how act (Some n) (looked_is how.how c) y)
+            (looked_here line y n hooks c t act refl refl refl)

@@ -7,11 +7,12 @@ use Rattle.word_lowering.specs.Operands.{Around, location}
 use Rattle.nim_types.specs.declared.types.TypeDef.TheVariants as D
 use Rattle.nim_program.specs.Kinds as kind
 use Rattle.nim_meaning.specs.Values.{At, Location, Operand, Value, blank, location_of, number_of, value_of}
-use Rattle.word_lowering.proofs.Lines.{Basis, IsGood, Settles, known, starts}
+use Rattle.word_lowering.proofs.Lines.{Basis, IsGood, Settles, known, starts, where_there}
 use Rattle.flat_code.specs.declared.block.BlockLine.{BlockLine}
 use Rattle.word_lowering.proofs.Blocks.{Blocks, Stored}
 use Rattle.word_lowering.proofs.Related.{Both, body_of, high, sites_of}
-use Rattle.nim_meaning.specs.Deeds.{Deed, costs, give, ◌>>=◌}
+use Rattle.nim_meaning.specs.Deeds.{Deed, costs, give, unless_gone, ◌>>=◌}
+use Rattle.nim_meaning.specs.Places.{may_change}
 use Rattle.hook_lifting.specs.declared.lifted.Hook.TheVariants.{Ends}
 use Rattle.nim_types.specs.Types.{Facts, Ty}
 use Rattle.word_lowering.proofs.OwnedFits.{FitsRow, OwnedRow, fits_row}
@@ -91,9 +92,10 @@ module _ (x : Basis) (b : HookBasis x) (traps : TrapsStop x) (g : Both) (rest : 
 
     -- of elements with hooks
     cut_two : (y : IsGood x (starts g sizing rest)) (z w : Operand) → fetch g.call.temps (F.Place t) ≡ Some z → fetch g.call.temps (F.Value u) ≡ Some w
-        → is_seen g.world (location_of z) ≡ true → (e : Ty) → type_at_number c ≡ Some (type.sequence e) → hooked (form_of facts e) ≡ true
-        → gives_sized (counted (number_of (value_of w)) (λ n. length_to (form_for facts (type_at_number c)) n (location_of z)))
-    cut_two y z w have have_value seen e is hooks =
+        → is_seen g.world (location_of z) ≡ true → may_change (location_of z).base ≡ true → (e : Ty) → type_at_number c ≡ Some (type.sequence e)
+        → hooked (form_of facts e) ≡ true → gives_sized (counted (number_of (value_of w)) (λ n. length_to (form_for facts (type_at_number c)) n
+        (location_of z)))
+    cut_two y z w have have_value seen changes e is hooks =
         let r : FitsRow x g rest to O.SetLength how None (c ∷ d ∷ []) (F.Place t ∷ F.Value u ∷ []) y
         = fits_row x g rest to O.SetLength how None (c ∷ d ∷ []) (F.Place t ∷ F.Value u ∷ []) y in
         let k = and_parts (is_resized (kind_if facts (type_at_number c))) (is_int (kind_if facts (type_at_number d))) r.row in
@@ -103,7 +105,8 @@ module _ (x : Basis) (b : HookBasis x) (traps : TrapsStop x) (g : Both) (rest : 
         let p = at_place (g.call.temps.places t) (λ there. At (location_at g.call.temps there)) z have in
         let there_seen : is_seen g.world (location_at g.call.temps p.there) ≡ true
         = subst (λ v. is_seen g.world (location_of v) ≡ true) (sym p.is) seen in
-        let m = sequence_at x types g sizing rest y t p.there e (typed.0 ∙ is) may p.has there_seen in
+        let m = sequence_at x types g sizing rest y t p.there e (typed.0 ∙ is) may p.has there_seen
+        (subst (λ v. may_change (location_of v).base ≡ true) (sym p.is) changes) in
         let l : Location = location_at g.call.temps p.there in
         let o = int_read x g sizing rest y u (value_of w) (subst (λ k. is_int (kind_if facts k) ≡ true) (sym typed_value.0) k.1)
         (given_value (g.call.temps.values u) w have_value) in
@@ -147,11 +150,11 @@ module _ (x : Basis) (b : HookBasis x) (traps : TrapsStop x) (g : Both) (rest : 
     -- of either
     sequence_by_hooks : (v : Bool) (e : Ty) → type_at_number c ≡ Some (type.sequence e) → hooked (form_of facts e) ≡ v
         → (y : IsGood x (starts g sizing rest)) (z w : Operand) → fetch g.call.temps (F.Place t) ≡ Some z → fetch g.call.temps (F.Value u) ≡ Some w
-        → is_seen g.world (location_of z) ≡ true
+        → is_seen g.world (location_of z) ≡ true → may_change (location_of z).base ≡ true
         → gives_sized (counted (number_of (value_of w)) (λ n. length_to (form_for facts (type_at_number c)) n (location_of z)))
-    sequence_by_hooks true e is h y z w have have_value seen = cut_two y z w have have_value seen e is h
-    sequence_by_hooks false e is h y z w have have_value seen =
-        length_two x types traps g rest to how c d t u y z w have have_value seen e is h
+    sequence_by_hooks true e is h y z w have have_value seen changes = cut_two y z w have have_value seen changes e is h
+    sequence_by_hooks false e is h y z w have have_value seen changes =
+        length_two x types traps g rest to how c d t u y z w have have_value seen changes e is h
 
   -- ---- the row, of what may be resized
 
@@ -166,7 +169,8 @@ module _ (x : Basis) (b : HookBasis x) (traps : TrapsStop x) (g : Both) (rest : 
   module _ (said : Writing x) where
     length_of_two : (c d : Option ℕ) (t u : ℕ) (y : IsGood x (starts g (sizing c d t u) rest)) (z w : Operand)
         → Have g.call.temps (F.Place t ∷ F.Value u ∷ []) (z ∷ w ∷ []) → are_seen g.world (z ∷ w ∷ []) ≡ true
-        → gives_sized c d t u (counted (number_of (value_of w)) (λ n. length_to (form_for facts (type_at_number c)) n (location_of z)))
+        → gives_sized c d t u (unless_gone (may_change (location_of z).base)
+        (counted (number_of (value_of w)) (λ n. length_to (form_for facts (type_at_number c)) n (location_of z))))
     length_of_two None d t u y z w have seen =
         never (and_parts (is_resized (kind_if facts None)) (is_int (kind_if facts (type_at_number d)))
         (fits_row x g rest to O.SetLength how None (None ∷ d ∷ []) (F.Place t ∷ F.Value u ∷ []) y).row).0
@@ -179,12 +183,16 @@ module _ (x : Basis) (b : HookBasis x) (traps : TrapsStop x) (g : Both) (rest : 
         (fits_row x g rest to O.SetLength how None (Some c ∷ Some d ∷ []) (F.Place t ∷ F.Value u ∷ []) y).row).0)
       where
         by : (is_sequence (kind_if facts (type_at_number (Some c))) ≡ true) ⊎ (is_text (kind_if facts (type_at_number (Some c))) ≡ true)
-            → gives_sized (Some c) (Some d) t u
-            (counted (number_of (value_of w)) (λ n. length_to (form_for facts (type_at_number (Some c))) n (location_of z)))
+            → gives_sized (Some c) (Some d) t u (unless_gone (may_change (location_of z).base)
+            (counted (number_of (value_of w)) (λ n. length_to (form_for facts (type_at_number (Some c))) n (location_of z))))
         by (inl sequence) =
             let s = sequence_some facts (type_at_number (Some c)) sequence in
-            sequence_by_hooks (Some c) (Some d) t u (hooked (form_of facts s.0)) s.0 s.1 refl y z w have.0 have.1.0
-            (and_parts (is_seen g.world (location_of z)) (are_seen g.world (w ∷ [])) seen).0
+            where_there x (starts g (sizing (Some c) (Some d) t u) rest) rest (may_change (location_of z).base)
+            (λ b. gives (scene_of (high x.table x.blocks (starts g (sizing (Some c) (Some d) t u) rest))) to (costs 1 (unless_gone b
+            (counted (number_of (value_of w)) (λ n. length_to (form_for facts (type_at_number (Some c))) n (location_of z)))) >>= (λ v. give v)))
+            (λ before. tt)
+            (λ changes. sequence_by_hooks (Some c) (Some d) t u (hooked (form_of facts s.0)) s.0 s.1 refl y z w have.0 have.1.0
+            (and_parts (is_seen g.world (location_of z)) (are_seen g.world (w ∷ [])) seen).0 changes)
         by (inr text) = text_length_row x said g rest to how traps c d t u text y z w have seen
 
     pub length_row : (ty : Option ℕ) (of : List (Option ℕ)) (from : List From) → OwnedRow x g rest to how O.SetLength ty of from

@@ -8,9 +8,14 @@ use Rattle.nim_meaning.specs.Values.{At, Given, Holds, InHand, Location, Slot, V
 use Rattle.nim_meaning.specs.Deeds.{Answers, Deed, Done, Fails, Finishes, behind, costs, give, perform, ◌>>=◌}
 use Rattle.nim_meaning.specs.Acts.{branch}
 use Rattle.nim_meaning.specs.Places.{place_at}
-use Rattle.nim_meaning.specs.State.{slot_at}
+use Rattle.nim_meaning.specs.State.{slot_at, World}
 use Rattle.nim_meaning.specs.Meaning.{place_copies, place_ends}
 use Rattle.nim_meaning.specs.Lifted.{assigned, copied, copying, walk}
+use Rattle.nim_types.specs.Forms.{Form}
+use Rattle.arc_base.specs.Event.{Event}
+use Rattle.word_lowering.specs.declared.homes.Home.{Home}
+use Rattle.hook_code.specs.Promises.{Routines}
+use Rattle.word_code.specs.Memory.{Memory}
 use Rattle.flat_code.specs.declared.block.BlockLine.{BlockLine}
 use Rattle.flat_code.specs.Codes.{block_plain}
 use Rattle.flat_code.specs.Fits.{is_declared, is_location, is_value}
@@ -26,11 +31,14 @@ use Rattle.word_lowering.specs.Aliases.{alias_by, value_to}
 use Rattle.word_lowering.specs.HookCalled.{hook_called}
 use Rattle.word_lowering.specs.Layouts.{holds_address, owns}
 use Rattle.word_lowering.specs.LineCode.{ends_code, hook_code, location}
+use Rattle.word_lowering.proofs.HookSurroundings.{surroundings}
+use Rattle.word_lowering.proofs.Moves.{IsHigh}
+use Rattle.word_lowering.proofs.Blocks.{Blocks, Stored}
 use Rattle.word_lowering.proofs.AddressFacts.{AtAddress, at_homed, in_memory}
 use Rattle.word_lowering.proofs.GoneWalks.{IsFailed, IsUnwaited, assigning_nothing, copied_nothing, copying_nothing, failed_settles, fails_on, nothing_above}
 use Rattle.word_lowering.proofs.GoneWalks.{nothing_waits}
 use Rattle.word_lowering.proofs.HandAssigns.{before, before_good, none_before, sinks_settles}
-use Rattle.word_lowering.proofs.HandCopies.{gets_copy_settles, none_ready, ready, ready_good}
+use Rattle.word_lowering.proofs.HandCopies.{gets_copy_settles, none_ready, ready, ready_good, copy_around, copy_settles, copy_stored}
 use Rattle.word_lowering.proofs.Gets.{same_temps}
 use Rattle.word_lowering.proofs.HookBasis.{HookBasis, first_hook, hand_routines, room_here, routines_here}
 use Rattle.word_lowering.proofs.HookCalls.{IsArgument, place_argument}
@@ -42,10 +50,10 @@ use Rattle.word_lowering.proofs.HookedTypes.{HookedType, chain_few}
 use Rattle.word_lowering.proofs.HooksGood.{name_within}
 use Rattle.word_lowering.proofs.HouseHooks.{homed, hooks_as}
 use Rattle.word_lowering.proofs.Keeping.{declared_address, points_there}
-use Rattle.word_lowering.proofs.Lines.{Basis, IsGood, Settles, all_sites, starts}
+use Rattle.word_lowering.proofs.Lines.{Basis, IsGood, Settles, all_sites, starts, all_procs}
 use Rattle.word_lowering.proofs.MovedLines.{own_plain}
 use Rattle.word_lowering.proofs.Related.{Both, body_of, high}
-use Rattle.word_lowering.proofs.Scenes.{FromPlace, IsNamed, IsThere, Name, address_of, house, looked, of_location, of_place, of_value}
+use Rattle.word_lowering.proofs.Scenes.{FromPlace, IsNamed, IsThere, Name, address_of, house, looked, of_location, of_place, of_value, Points, is_fixed}
 use Rattle.word_lowering.proofs.Settling.{code_here, code_next}
 use Rattle.word_lowering.proofs.ShapeFacts.{of_numbers}
 use Rattle.word_lowering.proofs.Sites.{Among, InMemory, around, has_hooks, is_one_word, looks}
@@ -117,57 +125,90 @@ module _ (x : Basis) (b : HookBasis x) (g : Both) (line : BlockLine) (rest : Lis
 
   -- ---- a copy for a temporary
 
-  module _ (to from : ℕ) (gives_it : value_to (block_plain line) ≡ Some to) (own : alias_by (block_plain line) (texts_behind x g line rest y) ≡ alias.Own)
-      (to_typed : type_in x is_value (body_of g) to ≡ Some held) (from_typed : type_in x is_location (body_of g) from ≡ Some held)
-      (code : code_here x g line rest y ≡ hook_code (around x.table x.blocks (body_of g)) Copies ty (house g.call.site (of_value to)).home
-      (location (around x.table x.blocks (body_of g)) from).home (code_next x g line rest y)) where
-    to_there : IsThere g.call.site (of_value to)
+  module _ (to : ℕ) (gives_it : value_to (block_plain line) ≡ Some to) (own : alias_by (block_plain line) (texts_behind x g line rest y) ≡ alias.Own)
+      (to_typed : type_in x is_value (body_of g) to ≡ Some held) where
+    pub to_there : IsThere g.call.site (of_value to)
     to_there = (given x g line rest y to held gives_it own to_typed).there
 
-    to_inside : InMemory (house g.call.site (of_value to)).home
+    pub to_inside : InMemory (house g.call.site (of_value to)).home
     to_inside = value_inside x b g line rest y ty h to to_there to_typed
 
-    to_hooked : of_numbers (looked x.table g.call.site (of_value to)) ≡ false
-    to_hooked = ap of_numbers (value_look x b g line rest y ty h to to_typed) ∙ h.numbers
+    pub to_look : looked x.table g.call.site (of_value to) ≡ shape_of (facts_in x.table) held
+    to_look = value_look x b g line rest y ty h to to_typed
 
-    abbrev state : Both
-    state = ready x g line rest y b.is_table b.have to ty to_there to_inside to_hooked (value_look x b g line rest y ty h to to_typed)
+    pub to_hooked : of_numbers (looked x.table g.call.site (of_value to)) ≡ false
+    to_hooked = ap of_numbers to_look ∙ h.numbers
 
-    state_good : IsGood x (starts state line rest)
-    state_good = ready_good x g line rest y b.is_table b.have to ty to_there to_inside to_hooked (value_look x b g line rest y ty h to to_typed)
+    abbrev pub state : Both
+    state = ready x g line rest y b.is_table b.have to ty to_there to_inside to_hooked to_look
 
-    pub get_copied : (there : Where) → g.call.temps.places from ≡ Some there → Settles x (starts g line rest) rest
-        (gives (scene_of (high x.table x.blocks (starts g line rest))) to (copied (form_in (known_in x.table) ty) (location_at g.call.temps there)))
-    get_copied there e =
-        let s = source_at x b g line rest y ty h from from_typed there e in
-        by s (led_argument x state line rest (ready_good x g line rest y b.is_table b.have to ty to_there to_inside to_hooked
-        (value_look x b g line rest y ty h to to_typed))
-        b.is_table b.have ty h.numbers g.call.site g.call.temps false there s.address tt s.leads_to)
-      where
-        by : (s : AtAddress x g line rest y (location (around x.table x.blocks (body_of g)) from) there (shape_of (facts_in x.table) held))
-            → IsArgument x state line rest
-            (ready_good x g line rest y b.is_table b.have to ty to_there to_inside to_hooked (value_look x b g line rest y ty h to to_typed)) b.is_table
-            b.have false
-            (location_at g.call.temps there) s.address ty ⊎ IsUnwaited g.world (location_at g.call.temps there)
-            → Settles x (starts g line rest) rest
-            (gives (scene_of (high x.table x.blocks (starts g line rest))) to (copied (form_in (known_in x.table) ty) (location_at g.call.temps there)))
-        by s (inl f) =
-            gets_copy_settles x g line rest y b.is_table b.have to ty to_there to_inside to_hooked (value_look x b g line rest y ty h to to_typed) b.short
-            (first_hook x)
-            (hand_routines x b state line rest (ready_good x g line rest y b.is_table b.have to ty to_there to_inside to_hooked
-            (value_look x b g line rest y ty h to to_typed)) to
-            to_there to_inside (none_ready x g line rest y b.is_table b.have to ty to_there to_inside to_hooked (value_look x b g line rest y ty h to to_typed))
-            to_hooked
-            (vacant (form_in (known_in x.table) ty))) b.hooks_there h.def h.entry h.hooks h.built h.hooks
-            (small_at x b g line rest y ty h (of_value to) to_there to_inside) (location_at g.call.temps there) s.address f
-            (room_here x b g line rest y Copies ty (chain_few x ty h Copies)) h.levels s.home s.high_is s.points
-            (code ∙ ap (λ k. hook_called (first_hook x) Copies ty (house g.call.site (of_value to)).home k (code_next x g line rest y)) s.home_is)
-        by s (inr gone) =
-            failed_settles x g line rest
-            (perform (copied (form_in (known_in x.table) ty) (location_at g.call.temps there) >>= (λ v. give (with_value to g.call.temps v))) g.world)
-            (fails_on (copied (form_in (known_in x.table) ty) (location_at g.call.temps there)) (λ v. give (with_value to g.call.temps v)) g.world
-            (copied_nothing (form_in (known_in x.table) ty) h.built g.world (location_at g.call.temps there)
-            (nothing_above g.world (location_at g.call.temps there) gone)))
+    abbrev pub state_good : IsGood x (starts state line rest)
+    state_good = ready_good x g line rest y b.is_table b.have to ty to_there to_inside to_hooked to_look
+
+    -- from where a home leads
+    module _ (l : Location) (address : ℕ) (f : IsArgument x state line rest state_good b.is_table b.have false l address ty) (from_home : Home)
+        (high_from : IsHigh from_home) (points : Points g.call.site.base g.call.vars from_home address)
+        (code : code_here x g line rest y ≡ hook_code (around x.table x.blocks (body_of g)) Copies ty (house g.call.site (of_value to)).home from_home
+        (code_next x g line rest y)) where
+      abbrev form : Form
+      form = form_in (known_in x.table) ty
+
+      routines : Routines x.table
+          (surroundings (copy_around x g line rest y b.is_table b.have to ty to_there to_inside to_hooked to_look)) x.live (all_procs x) x.fresh
+      routines =
+          hand_routines x b state line rest state_good to to_there to_inside
+          (none_ready x g line rest y b.is_table b.have to ty to_there to_inside to_hooked to_look) to_hooked (vacant form)
+
+      pub copy_from : (work : ℕ)
+          → Settles x (starts g line rest) rest (Passes (behind [] work (perform (copied form l >>= (λ v. give (with_value to g.call.temps v))) g.world)))
+      copy_from =
+          copy_settles x g line rest y b.is_table b.have to ty to_there to_inside to_hooked to_look b.short (first_hook x) routines b.hooks_there h.def
+          h.entry h.hooks h.built h.hooks (small_at x b g line rest y ty h (of_value to) to_there to_inside) l address f
+          (room_here x b g line rest y Copies ty (chain_few x ty h Copies)) h.levels from_home high_from points code
+
+      pub gets_from : Settles x (starts g line rest) rest (gives (scene_of (high x.table x.blocks (starts g line rest))) to (copied form l))
+      gets_from =
+          gets_copy_settles x g line rest y b.is_table b.have to ty to_there to_inside to_hooked to_look b.short (first_hook x) routines b.hooks_there h.def
+          h.entry h.hooks h.built h.hooks (small_at x b g line rest y ty h (of_value to) to_there to_inside) l address f
+          (room_here x b g line rest y Copies ty (chain_few x ty h Copies)) h.levels from_home high_from points code
+
+      -- it is stored by the type's shape
+      pub stored_from : (es : List Event) (n : ℕ) (v : Value) (w : World) → perform (copied form l) g.world ≡ Answers es n v w
+          → (after : Blocks) × (m : Memory) × (a : ℕ) × Stored (is_fixed g.ground) after m a (shape_of (facts_in x.table) held) v
+      stored_from es n v w e =
+          let c = copy_stored x g line rest y b.is_table b.have to ty to_there to_inside to_hooked to_look b.short (first_hook x) routines b.hooks_there h.def
+          h.entry h.hooks h.built h.hooks (small_at x b g line rest y ty h (of_value to) to_there to_inside) l address f
+          (room_here x b g line rest y Copies ty (chain_few x ty h Copies)) h.levels from_home high_from points code es n v w e in (
+            c.after,
+            c.memory,
+            address_of g.call.site.base (house g.call.site (of_value to)).home,
+            subst (λ s. Stored (is_fixed g.ground) c.after c.memory (address_of g.call.site.base (house g.call.site (of_value to)).home) s v) to_look c.stored,
+          )
+
+    -- from where a temporary leads
+    module _ (from : ℕ) (from_typed : type_in x is_location (body_of g) from ≡ Some held)
+        (code : code_here x g line rest y ≡ hook_code (around x.table x.blocks (body_of g)) Copies ty (house g.call.site (of_value to)).home
+        (location (around x.table x.blocks (body_of g)) from).home (code_next x g line rest y)) where
+      pub get_copied : (there : Where) → g.call.temps.places from ≡ Some there → Settles x (starts g line rest) rest
+          (gives (scene_of (high x.table x.blocks (starts g line rest))) to (copied (form_in (known_in x.table) ty) (location_at g.call.temps there)))
+      get_copied there e =
+          let s = source_at x b g line rest y ty h from from_typed there e in
+          by s (led_argument x state line rest state_good b.is_table b.have ty h.numbers g.call.site g.call.temps false there s.address tt s.leads_to)
+        where
+          by : (s : AtAddress x g line rest y (location (around x.table x.blocks (body_of g)) from) there (shape_of (facts_in x.table) held))
+              → IsArgument x state line rest state_good b.is_table b.have false (location_at g.call.temps there) s.address ty
+              ⊎ IsUnwaited g.world (location_at g.call.temps there)
+              → Settles x (starts g line rest) rest
+              (gives (scene_of (high x.table x.blocks (starts g line rest))) to (copied (form_in (known_in x.table) ty) (location_at g.call.temps there)))
+          by s (inl f) =
+              gets_from (location_at g.call.temps there) s.address f s.home s.high_is s.points
+              (code ∙ ap (λ k. hook_called (first_hook x) Copies ty (house g.call.site (of_value to)).home k (code_next x g line rest y)) s.home_is)
+          by s (inr gone) =
+              failed_settles x g line rest
+              (perform (copied (form_in (known_in x.table) ty) (location_at g.call.temps there) >>= (λ v. give (with_value to g.call.temps v))) g.world)
+              (fails_on (copied (form_in (known_in x.table) ty) (location_at g.call.temps there)) (λ v. give (with_value to g.call.temps v)) g.world
+              (copied_nothing (form_in (known_in x.table) ty) h.built g.world (location_at g.call.temps there)
+              (nothing_above g.world (location_at g.call.temps there) gone)))
 
   -- ---- what a place holds ends
 

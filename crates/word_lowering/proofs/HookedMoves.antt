@@ -3,16 +3,13 @@ use Rattle.std.proofs.Common.{◌≡◌, inl, ℕ, ◌+◌, ◌*◌, ◌%◌, �
 use Rattle.std.proofs.Common.{subst, ◌∙◌, ◌⊎◌, inr}
 use Rattle.std.proofs.Common.{arith}
 use Rattle.std.proofs.lemmas.Bool.{and_parts, cases_Bool}
-use Rattle.nim_plan.specs.declared.plan.Act.{Act}
-use Rattle.nim_types.specs.Forms.{Form}
-use Rattle.nim_types.specs.Types.{Ty}
+use Rattle.nim_types.specs.Types.{Facts, Ty}
+use Rattle.std.specs.Prelude.{◌||◌}
 use Rattle.nim_types.specs.Table.{facts_in, type_at}
-use Rattle.nim_program.specs.declared.operation.Use.TheVariants.{Looked}
-use Rattle.nim_program.specs.Kinds.{is_of}
+use Rattle.nim_program.specs.Kinds.{is_of, is_ordinal, is_selected, is_text, kind_if, kind_of}
 use Rattle.nim_program.specs.View.{if_type}
 use Rattle.nim_meaning.specs.Deeds.{Answers, costs, give, unless_gone}
-use Rattle.nim_meaning.specs.Here.{form_for, gives_hooked}
-use Rattle.nim_meaning.specs.Places.{Destination, copied_for, fetched, place_at, put, taken_by}
+use Rattle.nim_meaning.specs.Places.{fetched, place_at, put}
 use Rattle.nim_meaning.specs.State.{World, is_full_at, load, with_slot}
 use Rattle.nim_meaning.specs.Values.{Value, Location, bytes, Holds, default_of}
 use Rattle.flat_code.specs.Codes.{block_does, block_plain}
@@ -22,17 +19,12 @@ use Rattle.flat_code.specs.Running.{scene_of}
 use Rattle.flat_code.specs.Scene.{Passes, Temps, Where, location_at, with_value}
 use Rattle.flat_code.specs.Shapes.{Shape, has_shape, shape_of}
 use Rattle.flat_code.specs.declared.block.BlockLine.{BlockLine}
-use Rattle.flat_code.specs.declared.block.BlockLine.TheVariants as block_line
 use Rattle.flat_code.specs.declared.line.Line.TheVariants as L
-use Rattle.flat_code.specs.declared.line.UseAt.{UseAt}
-use Rattle.flat_code.specs.declared.owned.OwnedLine.TheVariants as owned_line
 use Rattle.word_code.specs.RoutineTable.{Separate, ZeroWords}
 use Rattle.word_code.specs.declared.word.WordInstr.{WordInstr}
 use Rattle.word_lowering.specs.Aliases.{alias_by, texts_of, value_to}
 use Rattle.word_lowering.specs.Layouts.{found, holds_address, owns}
-use Rattle.word_lowering.specs.LineCode.{is_copied, location}
-use Rattle.word_lowering.specs.WaitingCode.{gives_hooked as code_hooked}
-use Rattle.word_lowering.proofs.HookFree.{got_looked}
+use Rattle.word_lowering.specs.LineCode.{location}
 use Rattle.word_lowering.specs.Spots.{moves, clears}
 use Rattle.word_lowering.specs.declared.homes.Alias.TheVariants as alias
 use Rattle.word_lowering.specs.declared.homes.Housed.{Housed}
@@ -42,14 +34,16 @@ use Rattle.word_lowering.proofs.ControlLines.{plain}
 use Rattle.word_lowering.proofs.Gets.{Changes, good_item_place, item_settles, same_temps}
 use Rattle.word_lowering.proofs.HookedReads.{LiesAs, bytes_of, location_lies, some_bytes, value_lies}
 use Rattle.word_lowering.proofs.Keeping.{call, to_home}
-use Rattle.word_lowering.proofs.LineFits.{are_of}
+use Rattle.word_lowering.proofs.JoinedTypes.{text_looks}
+use Rattle.word_lowering.proofs.LineFits.{are_of, ordinal_shape}
 use Rattle.word_lowering.proofs.Lines.{Basis, IsGood, Settles, all_sites, bound_for, changed, fits_here, goes_on, known, stands_next, starts, using_settles}
 use Rattle.word_lowering.proofs.Lines.{all_procs, where_there}
 use Rattle.word_lowering.proofs.MovedLines.{own_declared, own_plain, owned}
 use Rattle.word_lowering.proofs.Related.{Both, body_of, high, store_of, store_with, within}
 use Rattle.word_lowering.proofs.Scenes.{IsItem, IsNamed, IsThere, Name, StoredIn, address_of, house, looked, of_place, of_value, is_fixed}
 use Rattle.word_lowering.proofs.Settling.{LabelsLead, code_here, code_next}
-use Rattle.word_lowering.proofs.ShapeFacts.{shape_bytes}
+use Rattle.word_lowering.proofs.Located.{AreBits}
+use Rattle.word_lowering.proofs.ShapeFacts.{of_numbers, shape_bytes}
 use Rattle.word_lowering.proofs.Sites.{Among, InMemory, around, has_hooks, is_one_word, type_of}
 use Rattle.word_lowering.proofs.SitesApart.{houses}
 use Rattle.word_lowering.proofs.Sources.{lying_all}
@@ -65,10 +59,13 @@ use Rattle.word_code.proofs.ForCallers.{Runs, at}
 use Rattle.word_code.specs.Memory.{Memory}
 use Rattle.word_lowering.proofs.Clears.{blank_numbers}
 
--- what is only looked at is read as it is
-taken_looked : (hooked : Bool) (f : Form) (to : Destination) (act : Option Act) (l : Location) → to.how ≡ Looked → taken_by hooked f to act l ≡ fetched l
-taken_looked false f to act l e = refl
-taken_looked true f to act l e = ap (λ how. copied_for how f to l) e
+-- an ordinal or a text
+selected_bits : (facts : Facts) (ty : Ty) → is_selected (kind_of facts ty) ≡ true → AreBits (shape_of facts ty)
+selected_bits facts ty h = by (is_ordinal (kind_of facts ty)) refl
+  where
+    by : (b : Bool) → is_ordinal (kind_of facts ty) ≡ b → AreBits (shape_of facts ty)
+    by true e = inl (ap of_numbers (ordinal_shape facts ty e).1)
+    by false e = inr (text_looks facts ty (sym (ap (λ b. b || is_text (kind_of facts ty)) e) ∙ h))
 
 module _ (x : Basis) (g : Both) (line : BlockLine) (rest : List BlockLine) (y : IsGood x (starts g line rest)) where
   -- ---- bits come to a home
@@ -253,34 +250,22 @@ module _ (x : Basis) (g : Both) (line : BlockLine) (rest : List BlockLine) (y : 
   -- ---- what stands at a location is looked at
 
   pub fetched_bits : (to : ℕ) (ty : Ty) (from : ℕ) (there : Where) → IsHomed x g.call.site from → BitsTo (of_value to) (shape_of (facts_in x.table) ty)
-      → is_one_word (shape_of (facts_in x.table) ty) ≡ false → type_in x is_location (body_of g) from ≡ Some ty → g.call.temps.places from ≡ Some there
+      → is_one_word (shape_of (facts_in x.table) ty) ≡ false → AreBits (shape_of (facts_in x.table) ty)
+      → type_in x is_location (body_of g) from ≡ Some ty → g.call.temps.places from ≡ Some there
       → code_here x g line rest y
       ≡ moves (house g.call.site (of_value to)) (location (around x.table x.blocks (body_of g)) from) (code_next x g line rest y)
       → Settles x (starts g line rest) rest
       (gives (scene_of (high x.table x.blocks (starts g line rest))) to (fetched (location_at g.call.temps there)))
-  fetched_bits to ty from there homed t many typed e code =
+  fetched_bits to ty from there homed t many are typed e code =
       let p = pointed x g line rest y from ty typed in
       let v = load g.world (location_at g.call.temps there) in
       let h : Housed = location (around x.table x.blocks (body_of g)) from in
       where_there x (starts g line rest) rest (is_full_at g.world (location_at g.call.temps there))
       (λ b. gives (scene_of (high x.table x.blocks (starts g line rest))) to (unless_gone b (costs (bytes v) (give v)))) (λ before. tt)
       (λ seen. let r = subst (λ s. LiesAs x g line rest y h s v) p.look
-      (location_lies x g line rest y from there p.named homed e (ap is_one_word p.look ∙ many) seen) in
+      (location_lies x g line rest y from there p.named homed e (ap is_one_word p.look ∙ many) (subst AreBits (sym p.look) are) seen) in
       let some = some_bytes x g line rest y r in
       bits_to_value to (shape_of (facts_in x.table) ty) v t h r code (bytes v + 0) (omega (arith, some)))
-
-  -- whatever the plan says of it
-  pub looked_bits : (to : ℕ) (ty : Ty) (o : Option Ty) (how : UseAt) (act : Option Act) (from : ℕ) (there : Where) → how.how ≡ Looked
-      → IsHomed x g.call.site from → BitsTo (of_value to) (shape_of (facts_in x.table) ty) → is_one_word (shape_of (facts_in x.table) ty) ≡ false
-      → type_in x is_location (body_of g) from ≡ Some ty → g.call.temps.places from ≡ Some there
-      → code_here x g line rest y
-      ≡ moves (house g.call.site (of_value to)) (location (around x.table x.blocks (body_of g)) from) (code_next x g line rest y)
-      → Settles x (starts g line rest) rest (gives (scene_of (high x.table x.blocks (starts g line rest))) to
-      (taken_by (gives_hooked (facts_in x.table) o) (form_for (facts_in x.table) o) (bound_for g how) act (location_at g.call.temps there)))
-  looked_bits to ty o how act from there is homed t many typed e code =
-      subst (λ d. Settles x (starts g line rest) rest (gives (scene_of (high x.table x.blocks (starts g line rest))) to d))
-      (sym (taken_looked (gives_hooked (facts_in x.table) o) (form_for (facts_in x.table) o) (bound_for g how) act (location_at g.call.temps there) is))
-      (fetched_bits to ty from there homed t many typed e code)
 
   -- ---- the value of a temporary
 
@@ -310,47 +295,14 @@ module _ (x : Basis) (g : Both) (rest : List BlockLine) where
     pub look_bits : BitsHere (plain (L.Look to from))
     look_bits y =
         let line = plain (L.Look to from) in
-        let f = are_of (type_in x is_value (body_of g) to) (type_in x is_location (body_of g) from)
-        (fits_here x.table x.blocks (body_of g) line rest y.stands) in
+        let p = and_parts (is_of (type_in x is_value (body_of g) to) (type_in x is_location (body_of g) from))
+        (is_selected (kind_if (facts_in x.table) (type_in x is_location (body_of g) from))) (fits_here x.table x.blocks (body_of g) line rest y.stands) in
+        let f = are_of (type_in x is_value (body_of g) to) (type_in x is_location (body_of g) from) p.0 in
         let word = no_word line y to f.ty many f.is in
+        let are = selected_bits (facts_in x.table) f.ty (subst (λ o. is_selected (kind_if (facts_in x.table) o) ≡ true) f.is_other p.1) in
         using_settles x (starts g line rest) rest (g.call.temps.places from)
         (λ there. gives (scene_of (high x.table x.blocks (starts g line rest))) to (fetched (location_at g.call.temps there)))
-        (λ there e. fetched_bits x g line rest y to f.ty from there homed (bits_target x g line rest y to f.ty refl refl f.is word) word f.is_other e refl)
-
-    pub get_bits : (how : UseAt) (ty : Option ℕ) → how.how ≡ Looked → BitsHere (plain (L.Get to from how ty))
-    get_bits how ty is y =
-        let line = plain (L.Get to from how ty) in
-        let parts = and_parts (is_of (type_in x is_value (body_of g) to) (if_type (known x).types ty))
-        (is_of (type_in x is_value (body_of g) to) (type_in x is_location (body_of g) from))
-        (fits_here x.table x.blocks (body_of g) line rest y.stands) in
-        let f = are_of (type_in x is_value (body_of g) to) (type_in x is_location (body_of g) from) parts.1 in
-        let word = no_word line y to f.ty many f.is in
-        using_settles x (starts g line rest) rest (g.call.temps.places from)
-        (λ there. gives (scene_of (high x.table x.blocks (starts g line rest))) to
-        (taken_by (gives_hooked (facts_in x.table) (if_type (known x).types ty)) (form_for (facts_in x.table) (if_type (known x).types ty))
-        (bound_for g how) None (location_at g.call.temps there)))
-        (λ there e. looked_bits x g line rest y to f.ty (if_type (known x).types ty) how None from there is homed
-        (bits_target x g line rest y to f.ty refl refl f.is word) word f.is_other e
-        (got_looked (around x.table x.blocks (body_of g)) (code_hooked x.table ty) (is_copied how.how) ty (house g.call.site (of_value to))
-        (location (around x.table x.blocks (body_of g)) from) (code_next x g line rest y) (ap is_copied is)))
-
-    pub take_bits : (how : UseAt) (act : Option Act) (ty : Option ℕ) → how.how ≡ Looked
-        → BitsHere (block_line.Plain (owned_line.Take to from how act ty))
-    take_bits how act ty is y =
-        let line = block_line.Plain (owned_line.Take to from how act ty) in
-        let parts = and_parts (is_of (type_in x is_value (body_of g) to) (if_type (known x).types ty))
-        (is_of (type_in x is_value (body_of g) to) (type_in x is_location (body_of g) from))
-        (fits_here x.table x.blocks (body_of g) line rest y.stands) in
-        let f = are_of (type_in x is_value (body_of g) to) (type_in x is_location (body_of g) from) parts.1 in
-        let word = no_word line y to f.ty many f.is in
-        using_settles x (starts g line rest) rest (g.call.temps.places from)
-        (λ there. gives (scene_of (high x.table x.blocks (starts g line rest))) to
-        (taken_by (gives_hooked (facts_in x.table) (if_type (known x).types ty)) (form_for (facts_in x.table) (if_type (known x).types ty))
-        (bound_for g how) act (location_at g.call.temps there)))
-        (λ there e. looked_bits x g line rest y to f.ty (if_type (known x).types ty) how act from there is homed
-        (bits_target x g line rest y to f.ty refl refl f.is word) word f.is_other e
-        (got_looked (around x.table x.blocks (body_of g)) (code_hooked x.table ty) (is_copied how.how) ty (house g.call.site (of_value to))
-        (location (around x.table x.blocks (body_of g)) from) (code_next x g line rest y) (ap is_copied is)))
+        (λ there e. fetched_bits x g line rest y to f.ty from there homed (bits_target x g line rest y to f.ty refl refl f.is word) word are f.is_other e refl)
 
   pub blank_bits : (n ty : ℕ) → is_one_word (shape_of (facts_in x.table) (type_at (known x).types ty)) ≡ false
       → of_handles (shape_of (facts_in x.table) (type_at (known x).types ty)) ≡ true → (house g.call.site (of_place n)).lent ≡ false

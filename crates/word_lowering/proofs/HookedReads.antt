@@ -16,7 +16,7 @@ use Rattle.word_lowering.proofs.BitMoves.{Bits}
 use Rattle.word_lowering.proofs.FullValues.{stored_bytes}
 use Rattle.word_lowering.proofs.Keeping.{from_home, points_there, spot_memory}
 use Rattle.word_lowering.proofs.Lines.{Basis, IsGood, all_sites, starts}
-use Rattle.word_lowering.proofs.Located.{led_stored}
+use Rattle.word_lowering.proofs.Located.{AreBits, led_stored}
 use Rattle.word_lowering.proofs.LocationHouses.{homed_house}
 use Rattle.word_lowering.proofs.Moves.{high_behind}
 use Rattle.word_lowering.proofs.Related.{Both, body_of, store_of}
@@ -75,13 +75,14 @@ module _ (x : Basis) (g : Both) (line : BlockLine) (rest : List BlockLine) (y : 
 
   -- what stands at a location, where all of it is there
   pub location_lies : (t : ℕ) (there : Where) → IsNamed g.call.site (of_location t) → IsHomed x g.call.site t → g.call.temps.places t ≡ Some there
-      → is_one_word (looked x.table g.call.site (of_location t)) ≡ false → is_full_at g.world (location_at g.call.temps there) ≡ true
-      → LiesAs (location (around x.table x.blocks (body_of g)) t) (looked x.table g.call.site (of_location t))
+      → is_one_word (looked x.table g.call.site (of_location t)) ≡ false → AreBits (looked x.table g.call.site (of_location t))
+      → is_full_at g.world (location_at g.call.temps there) ≡ true → LiesAs (location (around x.table x.blocks (body_of g)) t) (looked x.table g.call.site
+      (of_location t))
       (load g.world (location_at g.call.temps there))
-  location_lies t there n homed e many full =
+  location_lies t there n homed e many are full =
       let s : Shape = looked x.table g.call.site (of_location t) in
       let a = at_homed x g line rest y t there n homed e many in
-      let r = led_stored x (starts g line rest) y g.call (inl refl) (inl refl) there a.address s full a.leads_to in
+      let r = led_stored x (starts g line rest) y g.call (inl refl) (inl refl) there a.address s are full a.leads_to in
       let h = homed_house x g line rest y t there n homed e in
       let look : looks x.table (location (around x.table x.blocks (body_of g)) t) ≡ s = ap (shape_of (facts_in x.table)) h.typed in
       record {

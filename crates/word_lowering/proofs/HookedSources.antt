@@ -1,5 +1,5 @@
--- Where a hook reads from: the location of a temporary that is in a place, in a block, or in what waits, if anything does, or the text of a literal; what
--- has hooks leads into no other constant.
+-- Where a hook reads from: the location of a temporary that is in a place, in a block, or in what waits, if anything does, or in a constant with texts or
+-- sequences; what has hooks leads into no other constant.
 use Rattle.std.proofs.Common.{◌≡◌, ◌⊎◌, inl, inr, ℕ, ◌+◌, List, Bool, true, false, Option, Some, None}
 use Rattle.std.proofs.Common.{refl, sym, ap, subst, ◌∙◌, arith}
 use Rattle.nim_types.specs.Table.{IsTable}
@@ -8,7 +8,7 @@ use Rattle.nim_meaning.specs.Places.{may_change}
 use Rattle.nim_meaning.specs.State.{temporary_at}
 use Rattle.flat_code.specs.declared.block.BlockLine.{BlockLine}
 use Rattle.flat_code.specs.Scene.{Located, Temps, Where, Within, location_at}
-use Rattle.flat_code.specs.Shapes.{Shape, block}
+use Rattle.flat_code.specs.Shapes.{Shape}
 use Rattle.word_lowering.specs.Stored.{HaveForms}
 use Rattle.word_lowering.proofs.BaseValues.{IsOwn}
 use Rattle.word_lowering.proofs.GoodHomes.{HomeOf, held_of, home_at}
@@ -19,15 +19,12 @@ use Rattle.word_lowering.proofs.HookSurroundings.{shape}
 use Rattle.word_lowering.proofs.HooksGood.{home_within}
 use Rattle.word_lowering.proofs.Keeping.{AmongCalls, waiting_inside}
 use Rattle.word_lowering.proofs.Lines.{Basis, IsGood, starts}
-use Rattle.word_lowering.proofs.LiteralHandles.{literal_near}
 use Rattle.word_lowering.proofs.Related.{Both, calls_of, sites_of, store_of}
-use Rattle.word_lowering.proofs.Scenes.{Call, FromLiteral, FromWaiting, IsThere, Leads, LeadsHere, Says, SaysAt, address_of, house, looked}
+use Rattle.word_lowering.proofs.Scenes.{Call, FromLinked, FromWaiting, IsThere, Leads, LeadsHere, Says, SaysAt, address_of, house, looked}
 use Rattle.word_lowering.proofs.Scenes.{of_value, of_waiting}
 use Rattle.word_lowering.proofs.ShapeFacts.{never, of_numbers}
 use Rattle.word_lowering.proofs.ShapePaths.{PathTo, path_numbers, path_within}
 use Rattle.word_lowering.proofs.Sites.{Site}
-use Rattle.word_lowering.proofs.TextHomes.{text_home}
-use Rattle.std.proofs.lemmas.Bool.{both_ways}
 
 module _ (x : Basis) (g : Both) (line : BlockLine) (rest : List BlockLine) (y : IsGood x (starts g line rest)) (is_table : IsTable x.table)
     (have : HaveForms x.table) (ty : ℕ) (hooked : of_numbers (shape (around x g line rest y is_table have) ty) ≡ false) where
@@ -69,7 +66,7 @@ module _ (x : Basis) (g : Both) (line : BlockLine) (rest : List BlockLine) (y : 
         word = omega (arith, under, inside, at, most, places);
         led = inl (record {
           home = home_at x now c (of_waiting f.node) v;
-          among = inl (inl (record { home = home; hooked = by (of_numbers (looked x.table c.site (of_waiting f.node))) refl way }));
+          among = inl (record { home = home; hooked = by (of_numbers (looked x.table c.site (of_waiting f.node))) refl way });
           base = based;
           offset = f.offset;
           way = way;
@@ -112,32 +109,28 @@ module _ (x : Basis) (g : Both) (line : BlockLine) (rest : List BlockLine) (y : 
 
   -- ---- wherever it is
 
-  -- what may be put there isn't the text of a literal
+  -- what may be put there is part of no constant
   abbrev pub IsChangeable : (own : Bool) → Location → Type 0
   IsChangeable true l = may_change l.base ≡ true
   IsChangeable false l = Unit {0}
 
-  literal_argument : (own : Bool) (l : Location) (a : ℕ) → IsChangeable own l → FromLiteral x.table x.blocks l a t
+  pub linked_argument : (own : Bool) (l : Location) (a : ℕ) → IsChangeable own l → FromLinked g.ground l a t
       → IsArgument x g line rest y is_table have own l a ty
-  literal_argument own l a may f = record {
+  linked_argument own l a may f = record {
     at = a;
-    word = (let near = literal_near x l a t f in omega (arith, near));
-    led = inl (record {
-      home = text_home x f.text;
-      among = inl (inr (record { text = f.text; bytes = f.bytes; among = f.among; is = refl }));
-      base = f.base;
-      offset = 0;
-      way = subst (λ path. PathTo block path 0 t) (sym f.path) (refl, sym f.shape);
-      address = (let address = f.address in omega (arith, address));
-      owned = λ is. absurd (both_ways (may_change l.base) (ap may_change f.base) (subst (λ b. IsChangeable b l) is may));
-    });
+    word = (let near = f.near in omega (arith, near));
+    led = inr (inr (record { root = f.value; base = f.base; fixed = f.stands; lent = by own may }));
   }
+    where
+      by : (own : Bool) → IsChangeable own l → own ≡ false
+      by false may = refl
+      by true may = never (sym (ap may_change f.base) ∙ may)
 
   pub source_argument : (own : Bool) (l : Location) (a : ℕ) → IsChangeable own l → LeadsHere x.table x.blocks sites g.ground g.world l a t
       → IsArgument x g line rest y is_table have own l a ty ⊎ IsUnwaited g.world l
   source_argument own l a may (inl f) = inl (place_argument x g line rest y is_table have own l a ty f hooked)
   source_argument own l a may (inr (inl (inl f))) = never (sym hooked ∙ path_numbers f.shape l.path f.offset t f.numbers f.path)
-  source_argument own l a may (inr (inl (inr f))) = inl (literal_argument own l a may f)
+  source_argument own l a may (inr (inl (inr f))) = inl (linked_argument own l a may f)
   source_argument own l a may (inr (inr (inl f))) = inl (block_argument x g line rest y is_table have own l a ty f)
   source_argument own l a may (inr (inr (inr f))) = waiting_argument own l a f
 

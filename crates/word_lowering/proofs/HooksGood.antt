@@ -4,7 +4,7 @@ use Rattle.std.proofs.Common.{refl, sym, ap, ap₂, subst, ◌∙◌, arith}
 use Rattle.std.proofs.lemmas.Option.{none-some}
 use Rattle.nim_types.specs.Table.{IsTable}
 use Rattle.rv32_isa.specs.Image.{heap_at, stack_at}
-use Rattle.nim_meaning.specs.Values.{Value, Location, Standing, Waiting, InHand, Slot, Holds, Stands, Lends}
+use Rattle.nim_meaning.specs.Values.{Value, Location, Standing, Waiting, InHand, Slot, Holds, Stands, Lends, Made}
 use Rattle.nim_meaning.specs.Places.{root_of, through_slot}
 use Rattle.nim_meaning.specs.State.{World, slot_at, temporary_at}
 use Rattle.flat_code.specs.declared.block.BlockLine.{BlockLine}
@@ -39,6 +39,7 @@ use Rattle.word_lowering.proofs.GoodLeads.{call_of, own_place}
 use Rattle.word_lowering.proofs.Gets.{SameTemps, high_variable}
 use Rattle.word_lowering.proofs.HandHomes.{AllHomes}
 use Rattle.word_lowering.proofs.HookHomes.{HookHomes, IsHere}
+use Rattle.word_lowering.proofs.HookTexts.{fixed_alike, fixed_aside, fixed_before}
 use Rattle.word_lowering.proofs.HookWorlds.{IsLike, like_itself, IsMemoryLike, memory_itself, may_as}
 use Rattle.word_lowering.proofs.InMemory.{Carries}
 use Rattle.word_lowering.proofs.Keeping.{AmongCalls, call, from_home, to_home, spot_held, false_true, declared_address, location_address, waiting_inside}
@@ -49,7 +50,7 @@ use Rattle.word_lowering.proofs.OrdinalRuns.{AllSame}
 use Rattle.word_lowering.proofs.Related.{Both, StandAt, called_by, calls_of, sites_of, store_of, body_of, IsOpen as MayOpen, IsClosed, MemoryGood, AllFrames}
 use Rattle.word_lowering.proofs.RoutineMemory.{same_word}
 use Rattle.word_lowering.proofs.Scenes.{IsLasting, Store, is_fixed, address_of, AtHome, Name, of_value, of_location, of_place, of_waiting, Call, site_of, house}
-use Rattle.word_lowering.proofs.Scenes.{Filled, letter_later}
+use Rattle.word_lowering.proofs.Scenes.{Filled, letter_later, linked_later}
 use Rattle.word_lowering.proofs.Scenes.{HasValue, HasVariable, Says, SaysAt, variable_at, asks_shape}
 use Rattle.word_lowering.proofs.Scenes.{FromBlock, IsNamed, IsThere, looked, IsItem, FromPlace, IsFilled, Reaches, IsLedBy, IsLed, Holding, AllHold}
 use Rattle.word_lowering.proofs.ShapeFacts.{never, shape_bytes, of_numbers}
@@ -57,8 +58,15 @@ use Rattle.word_lowering.proofs.Sites.{room, Housing, in_variable, by_address, i
 use Rattle.word_lowering.proofs.SitesApart.{InRange, in_range, houses, SiteAt, site_at, next_least, next_whole, home_variable}
 use Rattle.word_lowering.proofs.Sources.{Lying, text_beside, address_whole}
 use Rattle.word_lowering.proofs.StoredLater.{stored_kept}
-use Rattle.word_lowering.proofs.TextHomes.{TextHome, at_text, beside_text, made_no_hand, made_standing, made_waiting, text_differs, text_homes_apart, text_may}
-use Rattle.word_lowering.proofs.TextHomes.{text_no_hand, text_not_own, text_not_standing, text_not_waiting, text_under, text_whole}
+
+made_no_hand : (v : Value) (i : ℕ) → Made v ≢ InHand i
+made_no_hand v i e = cc
+
+made_standing : (v : Value) (level number : ℕ) → Made v ≡ Standing level number → ⊥
+made_standing v level number e = cc
+
+made_waiting : (v : Value) (level node : ℕ) → Made v ≡ Waiting level node → ⊥
+made_waiting v level node e = cc
 
 same_standing : (a b c d : ℕ) → Standing a b ≡ Standing c d → (a ≡ c) × (b ≡ d)
 same_standing a b c d e = (cc, cc)
@@ -86,13 +94,9 @@ module _ (x : Basis) (g : Both) (line : BlockLine) (rest : List BlockLine) (y : 
   sites = sites_of now
 
   -- the home of what may have blocks
-  pub record PlacedHome (h : Home) : Type 0 where
+  pub record HookedHome (h : Home) : Type 0 where
     pub home : HomeOf x now h
     pub hooked : of_numbers h.shape ≡ false
-
-  -- or that of a text of the data, which has no other one
-  abbrev pub HookedHome : Home → Type 0
-  HookedHome h = PlacedHome h ⊎ TextHome x h
 
   among : (c : Call) → AmongCalls c (calls_of now) → AmongSites c.site sites
   among c i = among_sites (calls_of now) c i
@@ -165,48 +169,31 @@ module _ (x : Basis) (g : Both) (line : BlockLine) (rest : List BlockLine) (y : 
   -- ---- all homes
 
   pub hooked_apart : (a b : Home) → HookedHome a → HookedHome b → SameOrApart a b
-  hooked_apart a b (inl p) (inl q) = homes_apart x now y a b p.home q.home
-  hooked_apart a b (inr p) (inr q) = text_homes_apart x a b p q
-  hooked_apart a b (inl p) (inr q) =
-      let n = text_differs x b q a.base in
-      inr (record { bases = n.1; bases_turned = n.0; ranges = beside_text x now y b q a.at (home_bytes a) (home_within a p.home).lying })
-  hooked_apart a b (inr p) (inl q) =
-      let n = text_differs x a p b.base in
-      inr (record { bases = n.0; bases_turned = n.1; ranges = turned (beside_text x now y a p b.at (home_bytes b) (home_within b q.home).lying) })
-    where
-      turned : Beside b.at (home_bytes b) a.at (home_bytes a) → Beside a.at (home_bytes a) b.at (home_bytes b)
-      turned (inl e) = inr e
-      turned (inr e) = inl e
+  hooked_apart a b p q = homes_apart x now y a b p.home q.home
 
   pub hooked_under : (h : Home) → HookedHome h → h.at + home_bytes h ≤ next_base sites
-  hooked_under h (inl p) = (home_within h p.home).under
-  hooked_under h (inr p) = text_under x now y h p
+  hooked_under h p = (home_within h p.home).under
 
   pub hooked_whole : (h : Home) → HookedHome h → h.at % 4 ≡ 0
-  hooked_whole h (inl p) = (home_within h p.home).whole
-  hooked_whole h (inr p) = text_whole x h p
+  hooked_whole h p = (home_within h p.home).whole
 
   pub hooked_no_hand : (h : Home) → HookedHome h → (i : ℕ) → Differ h.base (InHand i) × (Differ (InHand i) h.base × (h.base ≢ InHand i))
-  hooked_no_hand h (inl p) i = no_hand_there h p.home i
-  hooked_no_hand h (inr p) i = text_no_hand x h p i
+  hooked_no_hand h p i = no_hand_there h p.home i
 
   -- their words may be put
   pub within_may : (h : Home) → IsWithin h → (k : ℕ) → k + 4 ≤ home_bytes h → k % 4 ≡ 0 → may_put g.memory (h.at + k) Word ≡ true
   within_may h q k within even = let w = q.whole in (y.memory.cells (h.at + k) (omega (arith, w, even)) (q.is_open k within)).may
 
   pub hooked_may : (h : Home) → HookedHome h → (k : ℕ) → k + 4 ≤ home_bytes h → k % 4 ≡ 0 → may_put g.memory (h.at + k) Word ≡ true
-  hooked_may h (inl p) k within even = within_may h (home_within h p.home) k within even
-  hooked_may h (inr p) k within even = text_may x now y h p k within even
+  hooked_may h p k within even = within_may h (home_within h p.home) k within even
 
   -- what stands there
   pub hooked_stands : (h : Home) → HookedHome h → IsAtHome (is_fixed g.ground) g.ground.blocks g.world g.memory h
-  hooked_stands h (inl p) = (good_homes x now y).homes h p.home
-  hooked_stands h (inr p) = at_text x now y h p
+  hooked_stands h p = (good_homes x now y).homes h p.home
 
   -- those whose values may become others are places
   pub hooked_lies : (h : Home) → HookedHome h → IsOwn h.base → Lying x sites y.linked h.at (home_bytes h)
-  hooked_lies h (inl p) own = (home_within h p.home).lying
-  hooked_lies h (inr p) own = absurd (text_not_own x h p own)
+  hooked_lies h p own = (home_within h p.home).lying
 
   module _ (is_table : IsTable x.table) (have : HaveForms x.table)
     where
@@ -231,6 +218,9 @@ module _ (x : Basis) (g : Both) (line : BlockLine) (rest : List BlockLine) (y : 
         memory = g.memory;
         reaches = (let e = y.memory.places in omega (arith, e));
         may = hooked_may;
+        fixed = λ m like. fixed_alike x g line rest y HookedHome hooked_lies m like;
+        fixed_under = fixed_before x g line rest y;
+        fixed_beside = λ place text is h p own. fixed_aside x g line rest y place text is h (hooked_lies h p own);
         law = x.law;
       }
 
@@ -295,8 +285,7 @@ module _ (x : Basis) (g : Both) (line : BlockLine) (rest : List BlockLine) (y : 
       was : slot_at g.world c.site.level n ≡ Some (Holds old)
 
     place_home : (c : Call) (i : AmongCalls c (calls_of now)) (n : ℕ) (h : Home) → HookedHome h → h.base ≡ Standing c.site.level n → IsPlaceHome c n
-    place_home c i n h (inr p) base = absurd (text_not_standing x h p c.site.level n base)
-    place_home c i n h (inl p) base = by p.home.name p.home.there p.home.inside p.home.has p.home.is
+    place_home c i n h p base = by p.home.name p.home.there p.home.inside p.home.has p.home.is
       where
         q : HomeOf x now h
         q = p.home
@@ -324,10 +313,10 @@ module _ (x : Basis) (g : Both) (line : BlockLine) (rest : List BlockLine) (y : 
     -- the home of a place
     the_home : (c : Call) (i : AmongCalls c (calls_of now)) (n : ℕ) → IsThere c.site (of_place n) → (p : IsPlaceHome c n)
         → HookedHome (home_at x now c (of_place n) p.old)
-    the_home c i n there p = inl (record {
+    the_home c i n there p = record {
       home = record { call = c; among = i; name = of_place n; there = there; inside = p.inside; value = p.old; has = p.was; is = refl };
       hooked = p.hooked;
-    })
+    }
 
     -- a place's slot is as it was, or it is the home of what may have blocks
     pub slot_cases : (c : Call) (i : AmongCalls c (calls_of now)) (n : ℕ) → IsThere c.site (of_place n)
@@ -395,8 +384,7 @@ module _ (x : Basis) (g : Both) (line : BlockLine) (rest : List BlockLine) (y : 
       pub stored : Stored (is_fixed g.ground) later m (address_of c.site.base (house c.site (of_waiting n)).home) (looked x.table c.site (of_waiting n)) new
 
     wait_home : (c : Call) (i : AmongCalls c (calls_of now)) (n : ℕ) (h : Home) → HookedHome h → h.base ≡ Waiting c.site.level n → IsWaitHome c n
-    wait_home c i n h (inr p) base = absurd (text_not_waiting x h p c.site.level n base)
-    wait_home c i n h (inl p) base = by p.home.name p.home.there p.home.has p.home.is
+    wait_home c i n h p base = by p.home.name p.home.there p.home.has p.home.is
       where
         q : HomeOf x now h
         q = p.home
@@ -419,7 +407,7 @@ module _ (x : Basis) (g : Both) (line : BlockLine) (rest : List BlockLine) (y : 
             }
 
     the_wait : (c : Call) (i : AmongCalls c (calls_of now)) (n : ℕ) → (p : IsWaitHome c n) → HookedHome (home_at x now c (of_waiting n) p.old)
-    the_wait c i n p = inl (record {
+    the_wait c i n p = record {
       home = record {
         call = c;
         among = i;
@@ -431,7 +419,7 @@ module _ (x : Basis) (g : Both) (line : BlockLine) (rest : List BlockLine) (y : 
         is = refl;
       };
       hooked = p.hooked;
-    })
+    }
 
     -- what waits at a node is as it was, or it is the home of what may have blocks
     pub wait_cases : (c : Call) (i : AmongCalls c (calls_of now)) (n : ℕ)
@@ -528,7 +516,7 @@ module _ (x : Basis) (g : Both) (line : BlockLine) (rest : List BlockLine) (y : 
         plain_shape (of_place n) v has = refl
         plain_shape (of_waiting n) v has = refl
 
-        apart_of : (h : Home) → PlacedHome h → AreApart (home_at x now c f v) h
+        apart_of : (h : Home) → HookedHome h → AreApart (home_at x now c f v) h
         apart_of h p = by (homes_apart x now y (home_at x now c f v) h home p.home)
           where
             by : SameOrApart (home_at x now c f v) h → AreApart (home_at x now c f v) h
@@ -536,8 +524,7 @@ module _ (x : Basis) (g : Both) (line : BlockLine) (rest : List BlockLine) (y : 
             by (inr away) = away
 
         beside_of : (h : Home) → HookedHome h ⊎ More h → Beside (home_at x now c f v).at (home_bytes (home_at x now c f v)) h.at (home_bytes h)
-        beside_of h (inl (inl p)) = (apart_of h p).ranges
-        beside_of h (inl (inr p)) = beside_text x now y h p (home_at x now c f v).at (home_bytes (home_at x now c f v)) r.lying
+        beside_of h (inl p) = (apart_of h p).ranges
         beside_of h (inr q) = (aside h q).plain (home_at x now c f v) home numbers
 
         part_of : (h : Home) → Beside (home_at x now c f v).at (home_bytes (home_at x now c f v)) h.at (home_bytes h)
@@ -679,10 +666,10 @@ module _ (x : Basis) (g : Both) (line : BlockLine) (rest : List BlockLine) (y : 
             where
               at_home : InMemory (house s (of_value t)).home → IsItem x.table store_then then (of_value t) v
               at_home inside =
-                  let at = holds.homes (home_at x now before (of_value t) v) (inl (record {
+                  let at = holds.homes (home_at x now before (of_value t) v) (record {
                     home = record { call = before; among = i; name = of_value t; there = there; inside = inside; value = v; has = has; is = refl };
                     hooked = hooked;
-                  })) in
+                  }) in
                   value_home (of_value t) v there ((old.items (of_value t) v there has).plain) inside hooked
                   ((old.items (of_value t) v there has).shaped)
                   (subst (λ u. Stored (is_fixed g.ground) later m (address_of s.base (house s (of_value t)).home) (looked x.table s (of_value t)) u)
@@ -735,7 +722,9 @@ module _ (x : Basis) (g : Both) (line : BlockLine) (rest : List BlockLine) (y : 
       leads_then : (there : Where) (a : ℕ) (t : Shape) → Reaches x.table x.blocks from g.ground g.world s temps there a t
           → Reaches x.table x.blocks from store_then.ground w s temps' there a t
       leads_then (Located l) a t (inl (inl f)) = inl (inl (place_leads l a t f))
-      leads_then (Located l) a t (inl (inr (inl f))) = inl (inr (inl f))
+      leads_then (Located l) a t (inl (inr (inl (inl f)))) = inl (inr (inl (inl f)))
+      leads_then (Located l) a t (inl (inr (inl (inr f)))) =
+          inl (inr (inl (inr (linked_later g.ground store_then.ground (record { blocks = ahead; fixed = refl }) l a t f))))
       leads_then (Located l) a t (inl (inr (inr (inl f)))) = inl (inr (inr (inl (block_leads l a t f))))
       leads_then (Located l) a t (inl (inr (inr (inr f)))) = inl (inr (inr (inr f)))
       leads_then (Located l) a t (inr f) = inr (letter_later x.table x.blocks g.ground store_then.ground (record { blocks = ahead; fixed = refl }) l a t f)

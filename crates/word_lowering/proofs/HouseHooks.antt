@@ -1,6 +1,6 @@
 -- What has hooks of what a line names: by its type, by its shape, and where it is another name.
 use Rattle.std.proofs.Common.{◌≡◌, ◌⊎◌, inl, inr, ℕ, List, [], ◌∷◌, map, Option, Some, None, Bool, true, false, refl, sym, ap, ◌∙◌}
-use Rattle.std.specs.Prelude.{◌||◌}
+use Rattle.std.specs.Prelude.{◌||◌, not}
 use Rattle.std.proofs.lemmas.Bool.{and_parts, cases_Bool}
 use Rattle.nim_types.specs.Forms.{form_of, hooked}
 use Rattle.nim_types.specs.Table.{facts_in, type_at, types_in}
@@ -24,8 +24,9 @@ use Rattle.word_lowering.proofs.LineFits.{same_type}
 use Rattle.word_lowering.proofs.Lines.{Basis, known}
 use Rattle.word_lowering.proofs.NamesIn.{names_from}
 use Rattle.word_lowering.proofs.Options.{none_some}
-use Rattle.word_lowering.proofs.Scenes.{IsNamed, Name, house, kind_in, number_in, of_location, of_place, of_value, of_waiting, row_of}
+use Rattle.word_lowering.proofs.Scenes.{IsNamed, IsThere, Name, house, looked, kind_in, number_in, of_location, of_place, of_value, of_waiting, row_of}
 use Rattle.word_lowering.proofs.ShapeFacts.{never, of_numbers}
+use Rattle.word_lowering.proofs.SitesApart.{houses}
 use Rattle.word_lowering.proofs.Sites.{IsBody, Site, globals_of, has_hooks, has_hooks_by, looks, sigs, type_of}
 use Rattle.word_lowering.proofs.ValueFacts.{IsHomed, IsPlain, PlainNames, has_type, homed_plain, type_in}
 
@@ -134,3 +135,14 @@ module _ (x : Basis) where
 
     pub homed : (t : ℕ) → IsNamed s (of_location t) → IsHomed x s t
     homed t named u is = homed_plain x s t b named (λ n. location_plain t u named is) u is
+
+    -- a value without hooks is made of numbers
+    pub unhooked_numbers : (t : ℕ) → IsThere s (of_value t) → not (gives_hooked (facts_in x.table) (type_in x is_value s.body t)) ≡ true
+        → of_numbers (looked x.table s (of_value t)) ≡ true
+    unhooked_numbers t there unhooked =
+        (houses x.table x.blocks s (of_value t) b there).numbers
+        (plain_typed t (type_in x is_value s.body t) refl (off (gives_hooked (facts_in x.table) (type_in x is_value s.body t)) unhooked) there)
+      where
+        off : (b : Bool) → not b ≡ true → b ≡ false
+        off true e = never e
+        off false e = refl

@@ -43,7 +43,7 @@ use Rattle.word_lowering.proofs.Sites.{room, Housing, in_variable, by_address, i
 use Rattle.word_lowering.proofs.Scenes.{IsLasting, address_of, Points, At, Name, of_value, of_location, of_place, of_waiting, number_in, Call, house, Filled}
 use Rattle.word_lowering.proofs.Scenes.{HasValue}
 use Rattle.word_lowering.proofs.Scenes.{variable_at, HasVariable, Says, SaysAt, IsAtNode, IsSteady}
-use Rattle.word_lowering.proofs.Scenes.{IsThere, IsNamed, IsLiteral, looked, IsItem, FromBlock, FromPlace, Reaches, IsLedBy, IsLed, letter_later}
+use Rattle.word_lowering.proofs.Scenes.{IsThere, IsNamed, IsLiteral, looked, IsItem, FromBlock, FromPlace, Reaches, IsLedBy, IsLed, letter_later, linked_later}
 use Rattle.word_lowering.proofs.Scenes.{IsFilled, Holding}
 use Rattle.word_lowering.proofs.Scenes.{site_of, AllHold, Ground, Store, is_fixed, StoredIn, IsLater, AtHome}
 use Rattle.word_lowering.proofs.SitesApart.{Beside, InRange, in_range, houses, home_variable, ranges_apart, SiteAt, site_at, IsPlace}
@@ -450,7 +450,9 @@ module _ (table : List TypeDef) (blocks : Code BlockLine) (small : data_end tabl
         → (there : Where) (a : ℕ) (t : Shape) → Reaches table blocks from k.ground w s temps there a t
         → Reaches table blocks from k'.ground w' s temps' there a t
     leads_kept from up s temps temps' vars vars' kept (Located location) a t (inl (inl x)) = inl (inl (from_kept from up location a t x))
-    leads_kept from up s temps temps' vars vars' kept (Located location) a t (inl (inr (inl x))) = inl (inr (inl x))
+    leads_kept from up s temps temps' vars vars' kept (Located location) a t (inl (inr (inl (inl x)))) = inl (inr (inl (inl x)))
+    leads_kept from up s temps temps' vars vars' kept (Located location) a t (inl (inr (inl (inr x)))) =
+        inl (inr (inl (inr (linked_later k.ground k'.ground later location a t x))))
     leads_kept from up s temps temps' vars vars' kept (Located location) a t (inl (inr (inr (inl x)))) = inl (inr (inr (inl (block_kept location a t x))))
     leads_kept from up s temps temps' vars vars' kept (Located location) a t (inl (inr (inr (inr x)))) = inl (inr (inr (inr x)))
     leads_kept from up s temps temps' vars vars' kept (Located location) a t (inr x) = inr (letter_later table blocks k.ground k'.ground later location a t x)

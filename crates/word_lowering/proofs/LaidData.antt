@@ -1,36 +1,34 @@
 -- Where the texts of code and its constants are laid out in the data.
-use Rattle.std.proofs.Common.{◌≡◌, ℕ, ◌+◌, ◌-◌, ◌%◌, ◌≤◌, List, ◌++◌, length, replicate, true, sym, ap, ◌∙◌, arith, append_assoc, length-append}
-use Rattle.std.specs.Set.{is_member}
-use Rattle.nim_types.specs.Types.{same_text}
+use Rattle.std.proofs.Common.{◌≡◌, ℕ, ◌+◌, ◌-◌, ◌%◌, ◌≤◌, List, ◌++◌, length, replicate, sym, ap, ◌∙◌, arith, append_assoc, length-append}
 use Rattle.nim_types.specs.declared.types.TypeDef.{TypeDef}
 use Rattle.rv32_isa.specs.Words.{word_bytes}
 use Rattle.rv32_isa.proofs.ForCallers.{length-word_bytes}
 use Rattle.flat_code.specs.declared.block.BlockLine.{BlockLine}
 use Rattle.flat_code.specs.declared.code.Code.{Code}
-use Rattle.flat_code.specs.Codes.{block_plain}
-use Rattle.flat_code.specs.Sizes.{code_texts, distinct_texts}
 use Rattle.word_lowering.specs.declared.handed.TheConstants.{LEFT_HANDLE_AT}
 use Rattle.word_lowering.specs.declared.texts.TheConstants.{FIXED_BYTES}
 use Rattle.word_lowering.specs.declared.may_lower.TheConstants.{MOST_DATA}
 use Rattle.word_lowering.specs.Texts.{padded, all_names, joined_all, ends_from, texts_at, texts_from, text_place, handle_place, place_among, or_zero}
 use Rattle.word_lowering.specs.Texts.{data_at}
+use Rattle.word_lowering.specs.Linked.{laid_out}
 use Rattle.word_lowering.specs.Runtimes.{Runtimes}
-use Rattle.word_lowering.proofs.DistinctTexts.{is_laid, more_behind, unique_has}
+use Rattle.word_lowering.proofs.DistinctTexts.{is_laid, more_behind}
 use Rattle.word_lowering.proofs.FirstMemory.{own, own_is, globals, fixed, behind, pad}
 use Rattle.word_lowering.proofs.FirstNames.{ends_length, behind_is}
+use Rattle.word_lowering.proofs.Sites.{laid_from, IsLaidOut}
 use Rattle.word_lowering.proofs.Padding.{zeros_length, padded_length, padded_whole}
 
 module _ (table : List TypeDef) (blocks : Code BlockLine) where
   abbrev pub distinct : List (List ℕ)
-  distinct = distinct_texts block_plain blocks.procs
+  distinct = laid_out (laid_from table blocks) blocks.procs
 
   -- where the handle of a text of the code is laid out, or of a constant that stands in the data
   abbrev pub handle_at : (text : List ℕ) → ℕ
-  handle_at text = texts_at table (globals table blocks) + handle_place blocks.procs text
+  handle_at text = texts_at table (globals table blocks) + handle_place (laid_from table blocks) blocks.procs text
 
   -- and what stands behind it
   abbrev pub laid_at : (text : List ℕ) → ℕ
-  laid_at text = texts_at table (globals table blocks) + text_place blocks.procs text
+  laid_at text = texts_at table (globals table blocks) + text_place (laid_from table blocks) blocks.procs text
 
   -- it begins at a word behind the globals
   pub record LaidAt (text : List ℕ) : Type 0 where
@@ -72,10 +70,10 @@ module _ (table : List TypeDef) (blocks : Code BlockLine) where
 
   module _ (runtime : Runtimes) (heap stack : ℕ) (least : FIXED_BYTES ≤ globals table blocks) (whole : globals table blocks % 4 ≡ 0)
       (most : length (own table blocks) ≤ MOST_DATA) where
-    pub laid_there : (text : List ℕ) → is_member same_text (code_texts block_plain blocks.procs) text ≡ true → LaidAt text
+    pub laid_there : (text : List ℕ) → IsLaidOut table blocks text → LaidAt text
     laid_there text among =
         let from : ℕ = data_at + texts_at table (globals table blocks) in
-        let there = is_laid from distinct text (unique_has (code_texts block_plain blocks.procs) text ∙ among) in
+        let there = is_laid from distinct text among in
         let zeros : List ℕ = replicate (globals table blocks - LEFT_HANDLE_AT) 0 in
         let front : List ℕ = fixed table blocks ++ zeros in
         let joined : List ℕ = joined_all (all_names table) in

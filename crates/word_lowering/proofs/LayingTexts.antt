@@ -1,8 +1,8 @@
 -- One text more is laid out, or none where it stands there already.
-use Rattle.nim_program.specs.declared.expr.Label.TheVariants as C
 use Rattle.std.proofs.Common.{◌≡◌, ◌∙◌, ℕ, ◌+◌, ◌-◌, Bool, true, false, List, [], ◌∷◌, ◌++◌, length, map, take, drop, min, Option, Some, None, refl, sym, ap}
 use Rattle.std.proofs.Common.{ap₂}
-use Rattle.std.proofs.Common.{append_assoc, append-nil, length-drop, arith}
+use Rattle.std.proofs.Common.{◌<◌, suc, get_or, add-one, length-drop, arith}
+use Rattle.std.proofs.Math.Seq.{drop-cons}
 use Rattle.std.specs.Prelude.{is_some, if◌then◌else◌, slice_range}
 use Rattle.std.specs.HashMap.{get}
 use Rattle.std.specs.Set.{is_member, unique_keys}
@@ -12,16 +12,12 @@ use Rattle.std.proofs.lemmas.List.{take_min, drop_min}
 use Rattle.nim_types.specs.Types.{same_text}
 use Rattle.flat_code.specs.declared.block.BlockLine.{BlockLine}
 use Rattle.flat_code.specs.declared.code.CodeProc.{CodeProc}
-use Rattle.flat_code.specs.declared.line.Line.{Line}
-use Rattle.flat_code.specs.declared.line.Line.TheVariants as L
 use Rattle.flat_code.specs.declared.line.Piece.{Piece}
-use Rattle.flat_code.specs.declared.line.Piece.TheVariants as P
-use Rattle.flat_code.specs.Codes.{block_plain}
-use Rattle.flat_code.specs.Pieces.{standing_bytes}
-use Rattle.flat_code.specs.Sizes.{pieces_texts, standing_texts, texts_in, lines_texts, code_texts}
 use Rattle.word_lowering.specs.declared.laid_texts.Laying.{Laying}
-use Rattle.word_lowering.specs.Texts.{handled, laid, laid_length, laid_texts, place_among, texts_in as texts_in_code}
-use Rattle.word_lowering.specs.LaidTexts.{AreLaid, ArePut, pieces_before, standing_before, line_before, lines_before, procs_before}
+use Rattle.word_lowering.specs.declared.linked.Stack.{Stack}
+use Rattle.word_lowering.specs.LaidTexts.{AreLaid, AreStacked, LaidCode, ArePut}
+use Rattle.word_lowering.specs.Linked.{with_pieces, items_before, procs_before, laid_out}
+use Rattle.word_lowering.specs.Texts.{handled, laid, laid_length, laid_texts, place_among, texts_in}
 use Rattle.word_lowering.proofs.DistinctTexts.{laid_long, unique_has, no_place, nowhere}
 
 -- a place is there exactly for a text that is there
@@ -89,85 +85,36 @@ module _ (from : ℕ) (texts : List (List ℕ)) (text : List ℕ) where
 
 -- ---- those of code
 
-pieces_are : (pieces : List Piece) (met : List (List ℕ)) → pieces_before pieces met ≡ pieces_texts pieces ++ met
-pieces_are [] met = refl
-pieces_are (P.Text text ∷ pieces) met = ap (λ ts. text ∷ ts) (pieces_are pieces met)
-pieces_are (P.Ordinal z ∷ pieces) met = pieces_are pieces met
-pieces_are (P.Nil ∷ pieces) met = pieces_are pieces met
-pieces_are (P.Parts n ∷ pieces) met = pieces_are pieces met
-pieces_are (P.Elements n ∷ pieces) met = pieces_are pieces met
-
--- a constant that stands in the data
-more_are : (pieces : List Piece) (met : List (List ℕ)) → standing_bytes pieces ∷ pieces_before pieces met ≡ (standing_bytes pieces ∷ pieces_texts pieces) ++ met
-more_are pieces met = ap (λ ts. standing_bytes pieces ∷ ts) (pieces_are pieces met)
-
-standing_is : (pieces : List Piece) (met : List (List ℕ)) → standing_before pieces met ≡ standing_texts pieces ++ met
-standing_is [] met = refl
-standing_is (P.Text text ∷ []) met = refl
-standing_is (P.Text text ∷ piece ∷ pieces) met = more_are (P.Text text ∷ piece ∷ pieces) met
-standing_is (P.Ordinal z ∷ pieces) met = more_are (P.Ordinal z ∷ pieces) met
-standing_is (P.Nil ∷ pieces) met = more_are (P.Nil ∷ pieces) met
-standing_is (P.Parts n ∷ pieces) met = more_are (P.Parts n ∷ pieces) met
-standing_is (P.Elements n ∷ pieces) met = more_are (P.Elements n ∷ pieces) met
-
-line_is : (line : Line) (met : List (List ℕ)) → line_before line met ≡ texts_in line ++ met
-line_is (L.Constant to how ty pieces) met = pieces_are pieces met
-line_is (L.Standing to ty pieces) met = standing_is pieces met
-line_is (L.Apply to operation how ty of from) met = refl
-line_is (L.Construct to how ty fields from) met = refl
-line_is (L.Call to how ty proc from) met = refl
-line_is (L.Get to from how ty) met = refl
-line_is (L.Look to from) met = refl
-line_is (L.Root to place global) met = refl
-line_is (L.Fresh to from waits) met = refl
-line_is (L.Part to from field) met = refl
-line_is (L.Item to from index) met = refl
-line_is (L.Object to from) met = refl
-line_is (L.Pass to from how ty) met = refl
-line_is (L.Truth to holds) met = refl
-line_is (L.Fill place from) met = refl
-line_is (L.Blank place ty) met = refl
-line_is (L.Give place from) met = refl
-line_is (L.Zero to) met = refl
-line_is (L.Length to from) met = refl
-line_is (L.Still from len) met = refl
-line_is (L.Element to from index) met = refl
-line_is (L.Beyond counter last inclusive to) met = refl
-line_is (L.Next counter last) met = refl
-line_is (L.Label name) met = refl
-line_is (L.Jump to) met = refl
-line_is (L.Unless from to) met = refl
-line_is (L.Fits from (C.Ordinals low high) to) met = refl
-line_is (L.Fits from (C.Text text) to) met = refl
-line_is (L.Own what from) met = refl
-line_is L.Enter met = refl
-line_is (L.Turn to) met = refl
-line_is (L.TurnIf from to) met = refl
-line_is (L.CountTurn counter last inclusive to) met = refl
-line_is (L.Return result) met = refl
-
-lines_are : (lines : List BlockLine) (met : List (List ℕ)) → lines_before lines met ≡ lines_texts (map block_plain lines) ++ met
-lines_are [] met = refl
-lines_are (line ∷ lines) met =
-    line_is (block_plain line) (lines_before lines met) ∙ ap (λ ts. texts_in (block_plain line) ++ ts) (lines_are lines met)
-    ∙ sym (append_assoc (texts_in (block_plain line)) (lines_texts (map block_plain lines)) met)
-
-procs_are : (procs : List (CodeProc BlockLine)) (met : List (List ℕ)) → procs_before procs met ≡ code_texts block_plain procs ++ met
-procs_are [] met = refl
-procs_are (p ∷ procs) met =
-    lines_are p.lines (procs_before procs met) ∙ ap (λ ts. lines_texts (map block_plain p.lines) ++ ts) (procs_are procs met)
-    ∙ sym (append_assoc (lines_texts (map block_plain p.lines)) (code_texts block_plain procs) met)
-
--- unless one was lost, they are laid out
-module _ (from : ℕ) (procs : List (CodeProc BlockLine)) (laying : Laying) (h : AreLaid from laying (procs_before procs [])) (kept : laying.lost ≡ false) where
-  same_texts : procs_before procs [] ≡ code_texts block_plain procs
-  same_texts = procs_are procs [] ∙ append-nil (code_texts block_plain procs)
-
+module _ (from : ℕ) (procs : List (CodeProc BlockLine)) (laying : Laying) (h : AreLaid from laying (procs_before from procs []))
+    (kept : laying.lost ≡ false) where
   pub bytes_laid : laying.bytes ≡ laid_texts from procs
-  bytes_laid = h.bytes kept ∙ ap (λ ts. laid from (unique_keys same_text ts)) same_texts
+  bytes_laid = h.bytes kept
 
-  pub all_laid : (all : List ℕ) → all ≡ texts_in_code procs → ArePut procs all laying.places
-  all_laid all e = record { literals = e; finds = λ text. h.places kept text ∙ ap (λ ts. place_among (unique_keys same_text ts) text) same_texts }
+  pub all_laid : (all : List ℕ) → all ≡ texts_in procs → ArePut (record { from = from; procs = procs }) all laying.places
+  all_laid all e = record { literals = e; finds = h.places kept }
+
+-- ---- a constant with texts or sequences inside, of which these pieces are left
+
+pub record IsLinking (from : ℕ) (laying : Laying) (stack : Stack) (rest : List Piece) (all : List (List ℕ)) : Type 0 where
+  pub values : List (List ℕ)
+  pub met : List (List ℕ)
+  pub laid : AreLaid from laying met
+  pub stacked : AreStacked stack values
+  pub is : items_before from rest values met ≡ all
+
+-- the next piece
+pub next_piece : (pieces : List Piece) (i : ℕ) (piece : Piece) → piece ≡ get_or pieces i piece → i < length pieces → drop i pieces ≡ piece ∷ drop (i + 1) pieces
+next_piece pieces i piece e less = rw add-one (drop-cons pieces i piece less ∙ ap (λ p. p ∷ drop (suc i) pieces) (sym e))
+
+-- and where all is laid out
+pub record IsPlacing (from : ℕ) (texts : List (List ℕ)) (stack : Stack) (rest : List Piece) (all : List (List ℕ)) : Type 0 where
+  pub values : List (List ℕ)
+  pub stacked : AreStacked stack values
+  pub is : with_pieces from texts rest values ≡ all
+
+abbrev pub PlacesFrom : List Piece → Stack → (index : ℕ) → LaidCode → Type 0
+PlacesFrom pieces stack index code =
+    IsPlacing code.from (laid_out code.from code.procs) stack (drop index pieces) (with_pieces code.from (laid_out code.from code.procs) pieces [])
 
 -- ---- a piece of some bytes
 

@@ -67,25 +67,3 @@ module _ (x : Basis) (g : Both) (line : BlockLine) (rest : List BlockLine) (y : 
       gives_settles x g line rest y to (measured m n) 1 (omega arith) getting
       (subst (λ lines. Given x.live (all_procs x) (within x.table x.blocks g) g.memory g.words lines g.call.vars (variable x g line rest y to)
       (word (measured m n)) (code_next x g line rest y)) (sym code) (given_by m (high_target x g line rest y to (measured m n) getting)))
-
-module _ (x : Basis) (g : Both) (line : BlockLine) (rest : List BlockLine) (y : IsGood x (starts g line rest)) (l : Location) (s : Shape)
-    (handled : IsHandled s) (n : ℕ) (k : Option ℕ) (is : load g.world l ≡ Handle n k) (a : ℕ)
-    (stored : Stored (is_fixed g.ground) g.ground.blocks g.memory a s (Handle n k)) (home : Place)
-    (at_home : IsAt g.call.site.base g.call.vars home a) where
-  abbrev here : Both
-  here = starts g line rest
-
-  -- what stands at its address
-  pub long_at : number_at g.memory a Word ≡ Ok n
-  long_at =
-      by s handled stored
-    where
-      by : (s : Shape) → IsHandled s → Stored (is_fixed g.ground) g.ground.blocks g.memory a s (Handle n k) → number_at g.memory a Word ≡ Ok n
-      by block i h = h.long
-      by (elements t) i h = h.long
-      by other i h = absurd i
-
-  pub length_settles : is_int_number (pos n) ≡ true → (to : ℕ) (m : Measure) → Getting x g line rest y to (measured m n)
-      → code_here x g line rest y ≡ measured_code m (variable x g line rest y to) home (code_next x g line rest y)
-      → Settles x (starts g line rest) rest (Passes (Answers [] 1 (with_value to g.call.temps (Number (measured m n))) g.world))
-  length_settles fits to m = counted_settles x g line rest y n a home at_home long_at fits to m

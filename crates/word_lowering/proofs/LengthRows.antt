@@ -39,7 +39,8 @@ use Rattle.word_lowering.proofs.ControlLines.{number_read, value_type}
 use Rattle.word_lowering.proofs.HouseHooks.{homed}
 use Rattle.word_lowering.proofs.JoinedTypes.{text_entry, text_looks}
 use Rattle.word_lowering.proofs.LineFits.{int_shape, no_type}
-use Rattle.word_lowering.proofs.Lines.{Basis, IsGood, Settles, known, starts}
+use Rattle.word_lowering.proofs.Lines.{Basis, IsGood, Settles, known, starts, where_there}
+use Rattle.nim_meaning.specs.Places.{may_change}
 use Rattle.word_lowering.proofs.LocationHouses.{homed_house}
 use Rattle.word_lowering.proofs.OperandTexts.{IsAtPlace, at_place, typed_parts, type_from}
 use Rattle.word_lowering.proofs.OwnedFits.{FitsRow, fits_row}
@@ -204,7 +205,11 @@ module _ (x : Basis) (said : Writing x) (g : Both) (rest : List BlockLine) (to :
       (does O.SetLength (facts_in x.table) None (Some type_a ∷ Some type_b ∷ []) (z ∷ w ∷ [])))
   text_length_row y z w have seen =
       let p = at_place (g.call.temps.places t) (λ there. At (location_at g.call.temps there)) z have.0 in
-      subst (λ o. gives_it (counted (number_of (value_of w)) (λ i. length_to (form_of (facts_in x.table) type_a) i (location_of o)))) p.is
-      (subst (λ f. gives_it (counted (number_of (value_of w)) (λ i. length_to f i (location_at g.call.temps p.there))))
+      subst (λ o. gives_it (unless_gone (may_change (location_of o).base)
+      (counted (number_of (value_of w)) (λ i. length_to (form_of (facts_in x.table) type_a) i (location_of o))))) p.is
+      (where_there x (starts g line rest) rest (may_change (location_at g.call.temps p.there).base)
+      (λ b. gives (scene_of (high x.table x.blocks (starts g line rest))) to (costs 1 (unless_gone b (counted (number_of (value_of w))
+      (λ i. length_to (form_of (facts_in x.table) type_a) i (location_at g.call.temps p.there)))) >>= (λ v. give v))) (λ before. tt)
+      (λ changes. subst (λ f. gives_it (counted (number_of (value_of w)) (λ i. length_to f i (location_at g.call.temps p.there))))
       (sym (ap (form_of (facts_in x.table)) (text_type (facts_in x.table) type_a of_text)))
-      (by y z w have seen p (is_handle (load g.world (location_at g.call.temps p.there))) refl))
+      (by y z w have seen p (is_handle (load g.world (location_at g.call.temps p.there))) refl)))

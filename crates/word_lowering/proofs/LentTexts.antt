@@ -1,11 +1,9 @@
 -- A literal that is only read, and whose value a line takes from a home: its handle stands there. What the line does is followed.
 use Rattle.std.proofs.Common.{◌≡◌, inl, ℕ, ◌+◌, ◌%◌, ◌<◌, ◌≤◌, ◌^◌, List, [], ◌∷◌, length, map, Some, Ok, true, false}
 use Rattle.std.proofs.Common.{refl, sym, ap, subst, ◌∙◌, arith}
-use Rattle.std.proofs.lemmas.Bool.{and_parts}
 use Rattle.std.specs.Set.{is_member}
 use Rattle.nim_types.specs.Table.{facts_in, type_at}
 use Rattle.nim_types.specs.Types.{Ty, same_text}
-use Rattle.nim_program.specs.Kinds.{is_of}
 use Rattle.nim_meaning.specs.Deeds.{Answers}
 use Rattle.nim_meaning.specs.Values.{Fixed}
 use Rattle.rv32_isa.specs.declared.micro_op.Size.TheVariants.{Word as whole}
@@ -36,15 +34,16 @@ use Rattle.word_lowering.specs.Operands.{text_at}
 use Rattle.word_lowering.specs.OwnedCode.{lent_text_code}
 use Rattle.word_lowering.specs.ShapeBytes.{shape_bytes}
 use Rattle.word_lowering.specs.Spots.{address, shifted}
+use Rattle.word_lowering.specs.Stored.{is_hooked}
+use Rattle.word_lowering.proofs.ConstantFits.{constant_shape, constant_typed}
 use Rattle.word_lowering.proofs.AddressFacts.{in_memory}
 use Rattle.word_lowering.proofs.Blocks.{IsLiteralHandle}
 use Rattle.word_lowering.proofs.ConstantWords.{text_among}
-use Rattle.word_lowering.proofs.ControlLines.{plain, value_type}
+use Rattle.word_lowering.proofs.ControlLines.{plain}
 use Rattle.word_lowering.proofs.FixedTexts.{is_fixed_now}
 use Rattle.word_lowering.proofs.Gets.{heap_kept, high_variable, item_settles, memory_kept}
 use Rattle.word_lowering.proofs.Keeping.{outside_still, points_there, somewhere, to_home}
-use Rattle.word_lowering.proofs.LineFits.{are_of}
-use Rattle.word_lowering.proofs.Lines.{Basis, IsGood, Settles, all_procs, all_sites, fits_here, known, lower, starts}
+use Rattle.word_lowering.proofs.Lines.{Basis, IsGood, Settles, all_procs, all_sites, known, lower, starts}
 use Rattle.word_lowering.proofs.Moves.{address_runs, all_same, same_first, same_more, same_second}
 use Rattle.word_lowering.proofs.OperandTexts.{TextsBuilt}
 use Rattle.word_lowering.proofs.PartRuns.{Sofar, changed_both, changed_same, shifted_address, shifted_inside}
@@ -150,15 +149,10 @@ module _ (x : Basis) (said : Writing x) (texts : TextsBuilt x) (g : Both) (rest 
     from = text_at (around x.table x.blocks (body_of g)) text
 
     fits : has_shape (Fixed text) (shape_of (facts_in x.table) to_type) ≡ true
-    fits = (and_parts (has_shape (Fixed text) (shape_of (facts_in x.table) to_type)) _
-        (fits_here x.table x.blocks (body_of g) naming rest y.stands)).0
+    fits = (constant_shape x g rest to how ty (P.Text text ∷ []) y).shaped
 
     typed : type_in x fit.is_value (body_of g) to ≡ Some to_type
-    typed =
-        let f = and_parts (has_shape (Fixed text) (shape_of (facts_in x.table) to_type)) _
-        (fits_here x.table x.blocks (body_of g) naming rest y.stands) in
-        let v = are_of (value_type x g naming rest y to) (Some to_type) (and_parts (is_of (value_type x g naming rest y to) (Some to_type)) _ f.1).0 in
-        v.is ∙ sym v.is_other
+    typed = constant_typed x g rest to how ty (P.Text text ∷ []) y
 
     there : IsThere g.call.site (of_value to)
     there = with_home x (has_type x g.call.site (of_value to) to_type y.linked.0 typed).named own tt
@@ -186,7 +180,7 @@ module _ (x : Basis) (said : Writing x) (texts : TextsBuilt x) (g : Both) (rest 
         ≡ address FIRST home_is.home ∷ Constant SECOND (length text) ∷ Store FIRST SECOND whole
         ∷ address FIRST (shifted 4 home_is.home) ∷ Datum SECOND from ∷ Store FIRST SECOND whole ∷ next
     lines_are =
-        ap (λ b. constant_by (around x.table x.blocks (body_of g)) b (Some text) home_is (P.Text text ∷ []) next) read
+        ap (λ b. constant_by (around x.table x.blocks (body_of g)) b (is_hooked x.table ty) (Some text) ty home_is (P.Text text ∷ []) next) read
         ∙ ap (λ a. lent_text_code (around x.table x.blocks (body_of g)) a home_is.home text next) own
 
     pub lent_text : Settles x (starts g naming rest) rest (Passes (Answers [] 1 (with_value to g.call.temps (Fixed text)) g.world))

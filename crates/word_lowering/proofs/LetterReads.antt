@@ -5,7 +5,7 @@ use Rattle.std.proofs.lemmas.Bool.{and_from, and_parts, lt-ltb}
 use Rattle.std.proofs.lemmas.Int.{ints}
 use Rattle.rv32_isa.specs.declared.micro_op.Size.TheVariants.{Byte}
 use Rattle.nim_program.specs.Ints.{fits as is_int_number, inside}
-use Rattle.nim_meaning.specs.Values.{Value, Number, Parts, Handle, Fixed, Ref, Resource, Gone, Vacant, Location, is_full, part}
+use Rattle.nim_meaning.specs.Values.{Value, Number, Parts, Handle, Fixed, Ref, Resource, Gone, Vacant, Location, is_full, nth_part, part}
 use Rattle.nim_meaning.specs.State.{World, load, is_full_at, is_seen, is_there, is_whole, whole_at}
 use Rattle.flat_code.specs.Scene.{Where, Located, Within, location_at}
 use Rattle.flat_code.specs.Shapes.{Shape, has_shape, is_ordinal}
@@ -20,11 +20,11 @@ use Rattle.word_lowering.proofs.GoodHomes.{HomeOf, good_homes, homes_apart}
 use Rattle.word_lowering.proofs.GoodLeads.{owned_seen, owned_to}
 use Rattle.word_lowering.proofs.Keeping.{AmongCalls}
 use Rattle.word_lowering.proofs.Lines.{Basis, IsGood}
-use Rattle.word_lowering.proofs.LiteralHandles.{text_stands}
+use Rattle.word_lowering.proofs.StoredParts.{part_last}
 use Rattle.word_lowering.proofs.Located.{IsStoredAt, full_there, led_stored}
 use Rattle.word_lowering.proofs.OrdinalChecks.{inside_is}
 use Rattle.word_lowering.proofs.Related.{Both, calls_of, sites_of}
-use Rattle.word_lowering.proofs.Scenes.{Call, FromFixed, FromText, IsOwned, Reaches, ReachesHere, is_fixed, text_from}
+use Rattle.word_lowering.proofs.Scenes.{Call, FromFixed, FromText, IsOwned, Reaches, ReachesHere, is_fixed}
 use Rattle.word_lowering.proofs.ShapeFacts.{is_letter, letter, letter_is, never}
 use Rattle.word_lowering.proofs.Sites.{AmongSites}
 use Rattle.word_lowering.proofs.TextLetters.{ByteAt, Letter, byte_at, letter_at}
@@ -105,20 +105,20 @@ module _ (x : Basis) (g : Both) (y : IsGood x g) where
       f.leads live y.memory.bytes in
       record { code = r.letter; is = r.is; small = r.small; reads = r.reads; near = r.near }
 
-  -- in the text of a literal
-  letter_in_literal : (l : Location) (a : ℕ) (t : Shape) → FromFixed x.table x.blocks l a t → LetterAt (load g.world l) a
-  letter_in_literal l a t f =
-      let start : ℕ = text_from x.table x.blocks f.text in
-      let there = fixed_there x g y start f.text (text_stands x f.text f.bytes f.among g y) in
+  -- in a text of a constant
+  letter_in_constant : (l : Location) (a : ℕ) (t : Shape) → FromFixed g.ground l a t → LetterAt (load g.world l) a
+  letter_in_constant l a t f =
+      let there = fixed_there x g y f.place f.text f.stands in
       let r : Letter f.text f.position = letter_at f.text f.position f.inside in
-      let b : ByteAt g.memory y.memory.sized (start + f.position) r.letter
-      = byte_at g.memory y.memory.sized start f.text there.3 f.position f.inside r in
+      let b : ByteAt g.memory y.memory.sized (f.place + f.position) r.letter
+      = byte_at g.memory y.memory.sized f.place f.text there.3 f.position f.inside r in
       let near = b.small in
       let e = f.address in
       record {
         code = r.letter;
-        is = ap₂ (λ base path. part (whole_at g.world base) path) f.base f.path ∙ r.is;
-        small = r.small f.bytes;
+        is = ap₂ (λ base path. part (whole_at g.world base) path) f.base f.path ∙ part_last f.value f.above f.position
+            ∙ ap (λ v. nth_part v f.position) f.is ∙ r.is;
+        small = r.small there.0;
         reads = ap (λ n. number_at g.memory n Byte) e ∙ b.reads;
         near = omega (arith, e, near);
       }
@@ -132,11 +132,11 @@ module _ (x : Basis) (g : Both) (y : IsGood x g) where
     where
       by : (there : Where) → is_full_at g.world (location_at c.temps there) ≡ true
           → Reaches x.table x.blocks (sites_of g) g.ground g.world c.site c.temps there a letter → LetterAt (load g.world (location_at c.temps there)) a
-      by (Located l) full (inl f) = letter_stored (load g.world l) a (led_stored x g y c i s (Located l) a letter full f)
+      by (Located l) full (inl f) = letter_stored (load g.world l) a (led_stored x g y c i s (Located l) a letter (inl refl) full f)
       by (Located l) full (inr (inl f)) = letter_in_text l a letter f (full_there x g y l full).0
-      by (Located l) full (inr (inr f)) = letter_in_literal l a letter f
+      by (Located l) full (inr (inr f)) = letter_in_constant l a letter f
       by (Within temp path) full f =
-          letter_stored (load g.world (location_at c.temps (Within temp path))) a (led_stored x g y c i s (Within temp path) a letter full f)
+          letter_stored (load g.world (location_at c.temps (Within temp path))) a (led_stored x g y c i s (Within temp path) a letter (inl refl) full f)
 
   -- all of one is there that is seen, where somebody owns it
   pub letter_there : (l : Location) (a : ℕ) → IsOwned l.base → ReachesHere x.table x.blocks (sites_of g) g.ground g.world l a letter

@@ -51,6 +51,7 @@ mod Clears
 mod CodeWeights
 mod CompareLines
 mod CompareTextLines
+mod ConstantFits
 mod ConstantLines
 mod ConstantWords
 mod ConstructLines
@@ -80,7 +81,10 @@ mod FirstNames
 mod FirstPlaces
 mod FirstTexts
 mod FirstWrites
+mod FixedParts
 mod FixedTexts
+mod FixedValues
+mod FixedWords
 pub mod ForCallers
 mod Frames
 mod FreshRowRuns
@@ -161,6 +165,7 @@ mod HookWords
 mod HookWorlds
 mod HouseHooks
 mod InMemory
+mod InPlaceRuns
 mod ItemLines
 mod ItemRuns
 mod Items
@@ -183,6 +188,7 @@ mod LengthLines
 mod LengthRows
 mod LentLocations
 mod LentTexts
+mod LetterLines
 mod LetterReads
 mod LetterRuns
 mod LetterShapes
@@ -198,7 +204,11 @@ mod Lines
 mod LinesRead
 mod LineUnderWay
 mod LineWorlds
+mod LinkedConstants
+mod LinkedElements
+mod LinkedReads
 mod LiteralHandles
+mod LookedBits
 mod Located
 mod LocationHouses
 mod MadeRows
@@ -340,7 +350,6 @@ mod Temporaries
 mod TextBytes
 mod TextConstants
 mod TextElements
-mod TextHomes
 mod TextItemLines
 mod TextLengthLines
 mod TextLetters
@@ -390,3 +399,9 @@ mod WantOfHeap
 mod WholeCode
 mod WriteLines
 mod WrittenLines
+mod StackedWords
+mod LaidOut
+mod LinkedItems
+mod LinkedWords
+mod LinkedFixed
+mod WordsBytes

@@ -24,6 +24,7 @@ use Rattle.word_code.specs.declared.word.Test.TheVariants as test
 use Rattle.word_code.specs.declared.word.WordInstr.TheVariants.{Spend, Constant, Argument, Branch, Call, Return, Place, Load, Store}
 use Rattle.rv32_isa.specs.declared.micro_op.Size.TheVariants.{Byte, Word as whole}
 use Rattle.word_code.specs.declared.routine.TheConstants.{SWAP}
+use Rattle.hook_lifting.specs.declared.lifted.Hook.TheVariants.{Copies}
 use Rattle.word_lowering.specs.declared.homes.TheConstants.{LEFT, FIRST, SECOND, THIRD, FIFTH}
 use Rattle.word_lowering.specs.declared.homes.Alias.{Alias}
 use Rattle.word_lowering.specs.declared.homes.Alias.TheVariants as alias
@@ -37,7 +38,7 @@ use Rattle.word_lowering.specs.Aliases.{is_read, text_in}
 use Rattle.word_lowering.specs.Layouts.{params_in, result_in}
 use Rattle.word_lowering.specs.Operations.{word, trap_label}
 use Rattle.word_lowering.specs.Spots.{spot_of, shifted, moved, moves, passes, cleared, clears, starts, handed}
-use Rattle.word_lowering.specs.Stored.{part_at, entry_at, base_at, limit_at}
+use Rattle.word_lowering.specs.Stored.{part_at, entry_at, base_at, limit_at, is_hooked}
 use Rattle.word_lowering.specs.LineCode as code
 use Rattle.word_lowering.specs.OwnedCode as owned
 use Rattle.word_lowering.specs.RoutineCode.{join_code}
@@ -46,7 +47,7 @@ use Rattle.word_lowering.proofs.Fronts.{Coding, IsFront, front_on, front_none, f
 use Rattle.word_lowering.proofs.Fronts.{put_back_front, letter_swap_front}
 use Rattle.word_lowering.proofs.Fronts.{binary_front, turn_front, turn_if_front, unary_front, compare_front, narrow_front, unless_front, beyond_front}
 use Rattle.word_lowering.proofs.Fronts.{fits_front}
-use Rattle.word_lowering.proofs.CalledHooks.{assigned_front, got_front}
+use Rattle.word_lowering.proofs.CalledHooks.{assigned_front, got_front, hook_front}
 use Rattle.word_lowering.specs.WaitingCode.{gives_hooked}
 use Rattle.word_lowering.proofs.KeptCode.{behind_front, owning_front, root_front}
 use Rattle.word_lowering.proofs.OwnedFronts.{front_enough, added_front, appended_front, compared_front, element_read_front, enough_front, joined_front}
@@ -85,8 +86,7 @@ module _ (own many : ℕ) where
   pieces_front to (P.Parts (suc n) ∷ pieces) = pieces_front to pieces
   pieces_front to (P.Text text ∷ pieces) = pieces_front to pieces
   pieces_front to (P.Nil ∷ pieces) = pieces_front to pieces
-  pieces_front to (P.Elements zero ∷ pieces) = pieces_front (shifted 4 to) pieces
-  pieces_front to (P.Elements (suc n) ∷ pieces) = pieces_front to pieces
+  pieces_front to (P.Elements n ∷ pieces) = pieces_front to pieces
 
   constant_at_front : (to : Housed) (spot : Spot) (pieces : List Piece) → IsFront own many (code.constant_at to spot pieces)
   constant_at_front to (Held v) pieces = record { is = λ k. refl; fine = tt }
@@ -97,12 +97,16 @@ module _ (own many : ℕ) where
       front_address own many FIRST home (λ k. Constant SECOND (code.first_word (piece_words pieces)) ∷ Store FIRST SECOND Byte ∷ k)
       (record { is = λ k. refl; fine = tt })
 
-  constant_front : (x : Around) (read : Bool) (text : Option (List ℕ)) (to : Housed) (pieces : List Piece)
-      → IsFront own many (code.constant_by x read text to pieces)
-  constant_front x true None to pieces = constant_at_front to (spot_of to) pieces
-  constant_front x false None to pieces = constant_at_front to (spot_of to) pieces
-  constant_front x true (Some text) to pieces = lent_text_front own many x to.alias to.home text
-  constant_front x false (Some text) to pieces = text_copied_front own many x to.home text
+  built_front : (x : Around) (hooked : Bool) (ty : ℕ) (to : Housed) (pieces : List Piece) → IsFront own many (code.built_code x hooked ty to pieces)
+  built_front x true ty to pieces = hook_front own many x Copies ty to.home (Static (code.standing_at x pieces))
+  built_front x false ty to pieces = constant_at_front to (spot_of to) pieces
+
+  constant_front : (x : Around) (read hooked : Bool) (text : Option (List ℕ)) (ty : ℕ) (to : Housed) (pieces : List Piece)
+      → IsFront own many (code.constant_by x read hooked text ty to pieces)
+  constant_front x true hooked None ty to pieces = built_front x hooked ty to pieces
+  constant_front x false hooked None ty to pieces = built_front x hooked ty to pieces
+  constant_front x true hooked (Some text) ty to pieces = lent_text_front own many x to.alias to.home text
+  constant_front x false hooked (Some text) ty to pieces = text_copied_front own many x to.home text
 
   -- ---- addresses
 
@@ -342,7 +346,11 @@ module _ (own many : ℕ) where
     row_front high (O.Update operator) ty of to hs few = update_front high operator hs
     row_front high O.Add ty of to hs few = added_front own many (code.operand_at hs 0).home (owned.size_in x (code.operand_at hs 0)) (code.operand_at hs 1)
     row_front high O.Append ty of to hs few =
-        appended_front own many x (owned.type_of of 1) (code.operand_at hs 1) (code.operand_at hs 0).home (owned.right_of x of hs)
+        let letter : Bool = owned.is_char (owned.entry_of x.table (owned.type_of of 1)) in
+        let home : Home = (code.operand_at hs 0).home in
+        let from : Housed = code.operand_at hs 1 in
+        front_enough own many 2 hs (owned.appended_code x letter own home (owned.type_of of 1) from)
+        (λ two. appended_front own many x high (omega (arith, two, few)) letter home (owned.type_of of 1) from)
     row_front high O.SetLength ty of to hs few =
         let there : Housed = code.operand_at hs 0 in
         let n : ℕ = code.variable_of (code.operand_at hs 1) in
@@ -385,12 +393,13 @@ line_front x (L.Construct to how ty fields from) own high plain =
     front_on own 0 (clears (code.value x to)) (code.fields_code x (code.value x to).home ty fields (code.operands x from))
     (clears_front own 0 (code.value x to))
     (fields_front own 0 x (code.value x to).home ty fields (code.operands x from))
-line_front x (L.Constant to how ty pieces) own high plain = constant_front own 0 x (is_read how.how) (text_in pieces) (code.value x to) pieces
+line_front x (L.Constant to how ty pieces) own high plain =
+    constant_front own 0 x (is_read how.how) (is_hooked x.table ty) (text_in pieces) ty (code.value x to) pieces
 line_front x (L.Call to how ty proc from) own high plain =
     front_more own (length from) Spend (code.call_code x own proc ty to from) refl
     (called_front own (length from) x high (code.layout_at x proc).runs proc ty to (code.operands x from) (operands_few x from))
 line_front x (L.Get to from how ty) own high plain =
-    got_front own 0 x (gives_hooked x.table ty && code.is_copied how.how) ty (code.value x to) (code.location x from)
+    got_front own 0 x (gives_hooked x.table ty && code.is_copied how.how) (code.is_seen_blank x ty) ty (code.value x to) (code.location x from)
 line_front x (L.Look to from) own high plain = moves_front own 0 (code.value x to) (code.location x from)
 line_front x (L.Root to p global) own high plain = root_front own 0 (code.own_alias x to) (code.led x to) (code.place x p global).home
 line_front x (L.Fresh to from waits) own high plain = front_none own 0

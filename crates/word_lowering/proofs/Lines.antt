@@ -16,7 +16,7 @@ use Rattle.nim_types.specs.Table.{type_at, types_in, facts_in}
 use Rattle.nim_meaning.specs.Values.{Value, Operand, default_of}
 use Rattle.nim_meaning.specs.State.{World}
 use Rattle.nim_meaning.specs.Acts.{branch}
-use Rattle.nim_meaning.specs.Places.{Destination}
+use Rattle.nim_meaning.specs.Places.{Destination, looked_as}
 use Rattle.flat_code.specs.declared.line.UseAt.{UseAt}
 use Rattle.nim_program.specs.Kinds.{kind_of, field_at, plain_kind, is_compared, is_resource}
 use Rattle.nim_program.specs.declared.operation.Comparison.{Comparison}
@@ -64,7 +64,8 @@ use Rattle.word_lowering.specs.Lowered.{data_at, lowered}
 use Rattle.word_lowering.specs.Runtimes.{Runtimes, with_runtimes}
 use Rattle.word_lowering.proofs.RoutineCalls.{Reaches}
 use Rattle.word_lowering.proofs.Sites.{Body, Site, AmongSites, next_base, data_end}
-use Rattle.word_lowering.proofs.Sites.{Linked, around, sigs, globals_of, is_one_word}
+use Rattle.word_lowering.proofs.LaidOut.{among_laid}
+use Rattle.word_lowering.proofs.Sites.{Linked, IsLaidOut, laid_from, around, sigs, globals_of, is_one_word}
 use Rattle.word_lowering.proofs.Blocks.{HasHeap}
 use Rattle.word_lowering.proofs.HeapKept.{SameHeap, heap_then}
 use Rattle.word_lowering.proofs.Scenes.{Ground, is_fixed, IsLater, Name, of_value, Call, site_of, Holding}
@@ -85,7 +86,7 @@ use Rattle.flat_code.specs.Pieces.{piece_words, standing_bytes}
 use Rattle.std.specs.Set.{is_member}
 use Rattle.nim_types.specs.Types.{same_text}
 use Rattle.flat_code.specs.Sizes.{code_texts}
-use Rattle.word_lowering.proofs.BlankShapes.{blank_in, of_handles}
+use Rattle.word_lowering.proofs.BlankShapes.{blank_in, of_handles, seen_in}
 
 -- what stays the same in all runs of a code
 pub record Basis : Type 0 where
@@ -103,6 +104,9 @@ pub record Basis : Type 0 where
   pub defaults : (ty : ℕ) → has_shape (default_of (facts_in table) (type_at (types_in table) ty)) (shape_of (facts_in table) (type_at (types_in table) ty))
       ≡ true
   pub blanks : (ty : ℕ) → default_of (facts_in table) (type_at (types_in table) ty) ≡ blank_in (shape_of (facts_in table) (type_at (types_in table) ty))
+  -- what is looked at of a value
+  pub seen : (ty : ℕ) (v : Value) → looked_as (form_of (facts_in table) (type_at (types_in table) ty)) v
+      ≡ seen_in (shape_of (facts_in table) (type_at (types_in table) ty)) v
   -- what is compared is a number, unless it comes with the heap
   pub compared : (ty : ℕ) (comparison : Comparison) → is_compared comparison (plain_kind (facts_in table) (type_at (types_in table) ty)) ≡ true
       → is_hooked table ty ≡ false
@@ -171,13 +175,21 @@ pub record Basis : Type 0 where
   -- the constants that stand in the data
   pub constants : (pieces : List Piece) → AllSmall (piece_words pieces)
       → is_member same_text (code_texts block_plain blocks.procs) (standing_bytes pieces) ≡ true → StandsThere table blocks first pieces
-  -- the handles of texts
-  pub texts : (text : List ℕ) → is_member same_text (code_texts block_plain blocks.procs) text ≡ true → HandleThere table blocks first text
+  -- the handles of texts, and of what else is laid out
+  pub laid : (text : List ℕ) → IsLaidOut table blocks text → HandleThere table blocks first text
   -- a character may be put at the front of the data
   pub letter : (places : List ℕ) → may_put (record first { places = places }) data_at Byte ≡ true
   -- and handles for operands, in front of the globals
   pub handles : FIXED_BYTES ≤ data_end table blocks → (places : List ℕ) (i : ℕ) (size : Size) → i + size_of size ≤ FIXED_BYTES
       → ((data_at + i) % size_of size == 0) ≡ true → may_put (record first { places = places }) (data_at + i) size ≡ true
+
+-- the texts of code are laid out
+pub texts_laid : (x : Basis) (text : List ℕ) → is_member same_text (code_texts block_plain x.blocks.procs) text ≡ true → IsLaidOut x.table x.blocks text
+texts_laid x text among = among_laid (laid_from x.table x.blocks) x.blocks.procs text among
+
+abbrev pub text_laid : (x : Basis) (text : List ℕ) → is_member same_text (code_texts block_plain x.blocks.procs) text ≡ true
+    → HandleThere x.table x.blocks x.first text
+text_laid x text among = x.laid text (texts_laid x text among)
 
 -- a program's procedures and those of routines
 abbrev pub all_procs : Basis → List WordProc

@@ -1,25 +1,19 @@
--- The text of a literal to which a location leads: its handle stands in the data, and nothing changes it.
+-- The text of a literal: its handle stands in the data, and nothing changes it.
 use Rattle.std.proofs.Common.{◌≡◌, inl, inr, ℕ, ◌+◌, ◌-◌, ◌%◌, ◌^◌, ◌<◌, ◌≤◌, List, [], ◌∷◌, length, Ok, true, sym, ap, ap₂, subst, arith}
 use Rattle.std.specs.Set.{is_member}
 use Rattle.nim_types.specs.Types.{same_text}
 use Rattle.rv32_isa.specs.Regions.{AreBytes}
 use Rattle.flat_code.specs.Codes.{block_plain}
 use Rattle.flat_code.specs.Sizes.{code_texts}
-use Rattle.nim_meaning.specs.Values.{Fixed, Location, part}
-use Rattle.nim_meaning.specs.State.{load, whole_at}
 use Rattle.rv32_isa.specs.declared.micro_op.Size.TheVariants.{Word}
-use Rattle.flat_code.specs.Shapes.{Shape}
 use Rattle.word_code.specs.Memory.{number_at}
 use Rattle.word_code.specs.RoutineTable.{Cell}
-use Rattle.word_lowering.specs.Lowered.{data_at}
-use Rattle.word_lowering.specs.declared.texts.TheConstants.{FIXED_BYTES}
 use Rattle.word_lowering.proofs.Blocks.{IsLiteralHandle}
 use Rattle.word_lowering.proofs.FixedTexts.{is_fixed_first, is_fixed_now}
-use Rattle.word_lowering.proofs.Lines.{Basis, IsGood}
+use Rattle.word_lowering.proofs.Lines.{Basis, IsGood, text_laid}
 use Rattle.word_lowering.proofs.PieceWords.{WordsAt}
 use Rattle.word_lowering.proofs.Related.{Both, HandleThere, IsClosed, sites_of, text_part}
-use Rattle.word_lowering.proofs.Scenes.{FromFixed, FromLiteral, handle_from, is_fixed, text_from}
-use Rattle.word_lowering.proofs.ShapeFacts.{shape_bytes}
+use Rattle.word_lowering.proofs.Scenes.{handle_from, is_fixed, text_from}
 use Rattle.word_lowering.proofs.Sources.{Readable, text_readable}
 use Rattle.word_lowering.proofs.StandingWords.{cell_still, words_still}
 
@@ -31,7 +25,7 @@ closed_near x a n (inr c) = omega (arith, c.1)
 
 module _ (x : Basis) (text : List ℕ) (bytes : AreBytes text) (among : is_member same_text (code_texts block_plain x.blocks.procs) text ≡ true) where
   abbrev there : HandleThere x.table x.blocks x.first text
-  there = x.texts text among
+  there = text_laid x text among
 
   abbrev handle_at : ℕ
   handle_at = handle_from x.table x.blocks text
@@ -82,44 +76,3 @@ module _ (x : Basis) (text : List ℕ) (bytes : AreBytes text) (among : is_membe
     handle_readable =
         text_readable x (sites_of g) y.linked g.memory handle_at 8 y.memory there.handle.is_text there.handle.whole
         (λ a low high is. handle_cell a low high is)
-
--- ---- its characters
-
-pub fixed_near : (x : Basis) (l : Location) (a : ℕ) (t : Shape) → FromFixed x.table x.blocks l a t → a + shape_bytes t < 2 ^ 32
-fixed_near x l a t f =
-    let near = text_near x f.text f.bytes f.among in
-    let less = f.inside in
-    let size = ap shape_bytes f.shape in
-    let address = f.address in
-    omega (arith, near, less, size, address)
-
--- ---- by its handle
-
-module _ (x : Basis) (l : Location) (a : ℕ) (t : Shape) (f : FromLiteral x.table x.blocks l a t) where
-  pub literal_near : a + shape_bytes t < 2 ^ 32
-  literal_near =
-      let near = handle_near x f.text f.bytes f.among in
-      let size = ap shape_bytes f.shape in
-      let address = f.address in
-      omega (arith, near, size, address)
-
-  -- it is behind what is made in the data for operands
-  pub literal_behind : data_at + FIXED_BYTES ≤ a
-  literal_behind = let low = (x.texts f.text f.among).behind in let address = f.address in omega (arith, low, address)
-
-  module _ (g : Both) (y : IsGood x g) where
-    pub literal_load : load g.world l ≡ Fixed f.text
-    literal_load = ap₂ (λ b path. part (whole_at g.world b) path) f.base f.path
-
-    pub literal_handle : IsLiteralHandle (is_fixed g.ground) g.memory a f.text
-    literal_handle = subst (λ b. IsLiteralHandle (is_fixed g.ground) g.memory b f.text) (sym f.address) (handle_stands x f.text f.bytes f.among g y)
-
-    pub literal_led : number_at g.memory (a + 4) Word ≡ Ok (text_from x.table x.blocks f.text)
-    literal_led =
-        subst (λ b. number_at g.memory (b + 4) Word ≡ Ok (text_from x.table x.blocks f.text)) (sym f.address) (text_led x f.text f.bytes f.among g y)
-
-    pub literal_readable : Readable x (sites_of g) y.linked g.memory a (shape_bytes t)
-    literal_readable =
-        subst (λ b. Readable x (sites_of g) y.linked g.memory b (shape_bytes t)) (sym f.address)
-        (subst (λ n. Readable x (sites_of g) y.linked g.memory (handle_from x.table x.blocks f.text) n) (sym (ap shape_bytes f.shape))
-        (handle_readable x f.text f.bytes f.among g y))

@@ -1,5 +1,5 @@
 -- What is at locations.
-use Rattle.std.proofs.Common.{◌≡◌, inl, inr, ℕ, ◌+◌, ◌-◌, ◌%◌, ◌≤◌, List, length, None, true, refl, sym, ap, subst, ◌∙◌, arith}
+use Rattle.std.proofs.Common.{◌≡◌, ◌⊎◌, inl, inr, ℕ, ◌+◌, ◌-◌, ◌%◌, ◌≤◌, List, length, None, true, refl, sym, ap, subst, ◌∙◌, arith}
 use Rattle.std.specs.Prelude.{◌==◌}
 use Rattle.std.proofs.lemmas.Bool.{and_parts, and_from, eq-eqb}
 use Rattle.rv32_isa.specs.Image.{heap_at}
@@ -29,8 +29,8 @@ use Rattle.word_lowering.proofs.PieceWords.{WordsAt, room_of, words_room, words_
 use Rattle.word_lowering.proofs.Related.{Both, calls_of, sites_of, text_part}
 use Rattle.word_lowering.proofs.Scenes.{is_fixed, address_of, Name, of_value, of_place, Call, house, IsThere, looked, FromBlock, FromOwned, FromPlace}
 use Rattle.word_lowering.proofs.Scenes.{FromValue, of_waiting, FromWaiting}
-use Rattle.word_lowering.proofs.LiteralHandles.{literal_handle, literal_load, literal_readable}
-use Rattle.word_lowering.proofs.Scenes.{FromConstant, FromLiteral, standing_from, Leads}
+use Rattle.word_lowering.proofs.LinkedReads.{linked_numbers, linked_readable, linked_shaped, linked_text}
+use Rattle.word_lowering.proofs.Scenes.{FromConstant, FromLinked, standing_from, Leads}
 use Rattle.word_lowering.proofs.ShapeFacts.{never, of_numbers, bytes_is, shape_bytes, values_of_numbers}
 use Rattle.word_lowering.proofs.ShapePaths.{PathTo, path_in, path_numbers, path_within}
 use Rattle.word_lowering.proofs.Sites.{InMemory, Site, AmongSites, Linked}
@@ -68,10 +68,11 @@ stored_row w F d m a n s (Ref r) at h = absurd at
 stored_row w F d m a n s (Resource vs j) at h = absurd at
 stored_row w F d m a n s (Gone v f) at h = absurd at
 
-no_text : (n : ℕ) (s : Shape) → row n s ≡ block → ⊥
-no_text n s e = cc
-
 -- ---- locations
+
+-- of numbers, or a text: its bits are all of it
+abbrev pub AreBits : Shape → Type 0
+AreBits t = (of_numbers t ≡ true) ⊎ (t ≡ block)
 
 -- a value at an address that may be read
 pub record IsReadAt (x : Basis) (sites : List Site) (linked : Linked x.table x.blocks sites) (m : Memory) (v : Value) (a : ℕ) (t : Shape) : Type 0 where
@@ -215,7 +216,7 @@ module _ (x : Basis) (g : Both) (y : IsGood x g) where
       let good = y.memory in
       let v : Value = value_of f.pieces in
       let numbers = values_of_numbers v f.shape f.numbers f.shaped in
-      let words = words_are f.pieces f.one in
+      let words = words_are f.pieces f.plain f.one in
       let there = x.constants f.pieces (subst AllSmall (sym words) (small_words v f.shape f.numbers f.shaped)) f.among in
       let base : ℕ = standing_from x.table x.blocks f.pieces in
       let at = by_words m base v numbers (subst (WordsAt m base) words (words_still x sites m good base (piece_words f.pieces) there.is_text there.words)) in
@@ -250,37 +251,62 @@ module _ (x : Basis) (g : Both) (y : IsGood x g) where
       }
 
   -- the text of a literal
-  literal_stored : (l : Location) (a : ℕ) (t : Shape) → FromLiteral x.table x.blocks l a t → IsStoredAt (load g.world l) a t
-  literal_stored l a t f =
-      subst (λ v. IsStoredAt v a t) (sym (literal_load x l a t f g y)) (record {
-        stored = subst (λ s. Stored (is_fixed g.ground) g.ground.blocks g.memory a s (Fixed f.text)) (sym f.shape) (literal_handle x l a t f g y);
-        shaped = subst (λ s. has_shape (Fixed f.text) s ≡ true) (sym f.shape) refl;
-        readable = literal_readable x l a t f g y;
-      })
+  linked_stored : (l : Location) (a : ℕ) (t : Shape) → AreBits t → FromLinked g.ground l a t → IsStoredAt (load g.world l) a t
+  linked_stored l a t (inl numbers) f = record {
+    stored = at_numbers (is_fixed g.ground) g.ground.blocks g.memory a t (load g.world l) numbers (linked_shaped x g y l a t f)
+        (linked_numbers x g y l a t f numbers);
+    shaped = linked_shaped x g y l a t f;
+    readable = linked_readable x g y l a t f;
+  }
+  linked_stored l a t (inr text) f =
+      let r = linked_text x g y l a (subst (FromLinked g.ground l a) text f) in
+      record {
+        stored = subst (λ s. Stored (is_fixed g.ground) g.ground.blocks g.memory a s (load g.world l)) (sym text)
+            (subst (Stored (is_fixed g.ground) g.ground.blocks g.memory a block) (sym r.1) r.2);
+        shaped = linked_shaped x g y l a t f;
+        readable = linked_readable x g y l a t f;
+      }
 
-  -- what a line reads at a location, where all of it is there
-  pub led_stored : (c : Call) → AmongCalls c (calls_of g) → AmongSites c.site (sites_of g) → (there : Where) (a : ℕ) (t : Shape)
+  -- what a line reads at a location, where all of it is there: it is stored, or a part of a constant
+
+  pub record IsLinked (there : Where) (a : ℕ) (t : Shape) : Type 0 where
+    pub location : Location
+    pub is : there ≡ Located location
+    pub from : FromLinked g.ground location a t
+
+  pub stored_or_linked : (c : Call) → AmongCalls c (calls_of g) → AmongSites c.site (sites_of g) → (there : Where) (a : ℕ) (t : Shape)
       → is_full_at g.world (location_at c.temps there) ≡ true → Leads x.table x.blocks (sites_of g) g.ground g.world c.site c.temps there a t
-      → IsStoredAt (load g.world (location_at c.temps there)) a t
-  led_stored c i s (Located location) a t full (inl l) = owned_stored location a t (inl l) full
-  led_stored c i s (Located location) a t full (inr (inl (inl l))) = constant_stored location a t l
-  led_stored c i s (Located location) a t full (inr (inl (inr l))) = literal_stored location a t l
-  led_stored c i s (Located location) a t full (inr (inr (inl l))) = owned_stored location a t (inr (inl l)) full
-  led_stored c i s (Located location) a t full (inr (inr (inr l))) =
-      leading_stored location a t (inl (waiting_home x g y location a t l (full_there location full).1)) full
-      (lying_readable x (sites_of g) y.linked g.memory a (shape_bytes t) y.memory (waiting_lying location a t l))
-  led_stored c i s (Within temp path) a t full l =
+      → IsStoredAt (load g.world (location_at c.temps there)) a t ⊎ IsLinked there a t
+  stored_or_linked c i s (Located location) a t full (inl l) = inl (owned_stored location a t (inl l) full)
+  stored_or_linked c i s (Located location) a t full (inr (inl (inl l))) = inl (constant_stored location a t l)
+  stored_or_linked c i s (Located location) a t full (inr (inl (inr l))) = inr (record { location = location; is = refl; from = l })
+  stored_or_linked c i s (Located location) a t full (inr (inr (inl l))) = inl (owned_stored location a t (inr (inl l)) full)
+  stored_or_linked c i s (Located location) a t full (inr (inr (inr l))) =
+      inl (leading_stored location a t (inl (waiting_home x g y location a t l (full_there location full).1)) full
+      (lying_readable x (sites_of g) y.linked g.memory a (shape_bytes t) y.memory (waiting_lying location a t l)))
+  stored_or_linked c i s (Within temp path) a t full l =
       let at : Location = record { base = Made l.value; path = path; through = None } in
-      subst (λ o. IsStoredAt (part (if_value o) path) a t) (sym l.has)
+      inl (subst (λ o. IsStoredAt (part (if_value o) path) a t) (sym l.has)
       (leading_stored at a t (inl (value_home x g y c i temp path a t l))
       (subst (λ o. is_full_at g.world (record { base = Made (if_value o); path = path; through = None }) ≡ true) l.has full)
-      (lying_readable x (sites_of g) y.linked g.memory a (shape_bytes t) y.memory (value_lying c s temp path a t l)))
+      (lying_readable x (sites_of g) y.linked g.memory a (shape_bytes t) y.memory (value_lying c s temp path a t l))))
+
+  pub led_stored : (c : Call) → AmongCalls c (calls_of g) → AmongSites c.site (sites_of g) → (there : Where) (a : ℕ) (t : Shape) → AreBits t
+      → is_full_at g.world (location_at c.temps there) ≡ true → Leads x.table x.blocks (sites_of g) g.ground g.world c.site c.temps there a t
+      → IsStoredAt (load g.world (location_at c.temps there)) a t
+  led_stored c i s there a t bits full l = by (stored_or_linked c i s there a t full l)
+    where
+      by : IsStoredAt (load g.world (location_at c.temps there)) a t ⊎ IsLinked there a t → IsStoredAt (load g.world (location_at c.temps there)) a t
+      by (inl r) = r
+      by (inr p) = subst (λ z. IsStoredAt (load g.world (location_at c.temps z)) a t) (sym p.is) (linked_stored p.location a t bits p.from)
 
   -- one of numbers
   pub led_located : (c : Call) → AmongCalls c (calls_of g) → AmongSites c.site (sites_of g) → (there : Where) (a : ℕ) (t : Shape) → of_numbers t ≡ true
       → is_full_at g.world (location_at c.temps there) ≡ true → Leads x.table x.blocks (sites_of g) g.ground g.world c.site c.temps there a t
       → ReadHere (load g.world (location_at c.temps there)) a t
-  led_located c i s there a t numbers full l = read_numbers (load g.world (location_at c.temps there)) a t numbers (led_stored c i s there a t full l)
+  led_located c i s there a t numbers full l =
+      read_numbers (load g.world (location_at c.temps there)) a t numbers
+      (led_stored c i s there a t (inl numbers) full l)
 
   -- an array there
   leading_row : (l : Location) (a n : ℕ) (s : Shape) → Leading l a (row n s) → is_seen g.world l ≡ true → RowRead (load g.world l) n
@@ -293,7 +319,7 @@ module _ (x : Basis) (g : Both) (y : IsGood x g) where
       → Leads x.table x.blocks (sites_of g) g.ground g.world c.site c.temps there a (row n s) → RowRead (load g.world (location_at c.temps there)) n
   led_row c i (Located location) a n s seen (inl l) = leading_row location a n s (owned_to x g y location a (row n s) (inl l)) seen
   led_row c i (Located location) a n s seen (inr (inl (inl l))) = row_parts (load g.world location) n s (constant_located location a (row n s) l).shaped
-  led_row c i (Located location) a n s seen (inr (inl (inr l))) = absurd (no_text n s l.shape)
+  led_row c i (Located location) a n s seen (inr (inl (inr l))) = row_parts (load g.world location) n s (linked_shaped x g y location a (row n s) l)
   led_row c i (Located location) a n s seen (inr (inr (inl l))) = leading_row location a n s (owned_to x g y location a (row n s) (inr (inl l))) seen
   led_row c i (Located location) a n s seen (inr (inr (inr l))) =
       let p = and_parts (is_there g.world location) (is_whole g.world (load g.world location)) seen in

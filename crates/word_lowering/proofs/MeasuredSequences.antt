@@ -28,7 +28,7 @@ use Rattle.word_lowering.proofs.NumberLines.{int_target, variable}
 use Rattle.flat_code.specs.Fits.{is_location, is_value}
 use Rattle.nim_meaning.specs.State.{is_seen, load}
 use Rattle.word_lowering.proofs.ControlLines.{kind_at}
-use Rattle.word_lowering.proofs.LengthLines.{length_settles}
+use Rattle.word_lowering.proofs.LengthLines.{counted_settles}
 use Rattle.word_lowering.proofs.MeasureLines.{measured_fits}
 use Rattle.word_lowering.specs.LineCode.{location, measure_code}
 use Rattle.nim_meaning.specs.Table.{measured}
@@ -100,11 +100,10 @@ module _ (x : Basis) (types : SequencesKnown x) (g : Both) (rest : List BlockLin
         (costs 1 (unless_gone b (give (Number (measured m (length_of (load g.world (location_at g.call.temps p.there))))))) >>= (λ v. give v)))
         (λ before. tt)
         (λ seen. let w = reads_at x types g line rest y t p.there e typed p.has seen in
-        subst (λ v. Settles x (starts g line rest) rest (Passes (Answers [] 1 (with_value to g.call.temps (Number (measured m (length_of v)))) g.world)))
-        (sym w.is)
-        (length_settles x g line rest y (location_at g.call.temps p.there) (elements (shape_of (facts_in x.table) e)) tt w.long w.block w.is w.address w.stored
-        w.home w.at_home w.fits to m
-        (int_target x g line rest y to refl refl (plain_int x g line rest y to int_to) int_to (measured m w.long) (measured_fits m w.long w.fits))
+        subst (λ n. Settles x (starts g line rest) rest (Passes (Answers [] 1 (with_value to g.call.temps (Number (measured m n))) g.world)))
+        (sym w.all.long_is)
+        (counted_settles x g line rest y w.all.long w.address w.home w.at_home w.all.long_at w.fits to m
+        (int_target x g line rest y to refl refl (plain_int x g line rest y to int_to) int_to (measured m w.all.long) (measured_fits m w.all.long w.fits))
         (ap (λ b. measure_code (around x.table x.blocks (body_of g)) b m (variable x g line rest y to)
         (location (around x.table x.blocks (body_of g)) t) (code_next x g line rest y)) w.handled
         ∙ ap (λ h. measured_code m (variable x g line rest y to) h (code_next x g line rest y)) w.home_is))))

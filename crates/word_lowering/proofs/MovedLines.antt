@@ -31,6 +31,8 @@ use Rattle.word_lowering.specs.Layouts.{found, owns, address_by, holds_address}
 use Rattle.word_lowering.specs.LineCode.{is_copied, location}
 use Rattle.word_lowering.specs.WaitingCode.{gives_hooked as code_hooked}
 use Rattle.word_lowering.proofs.HookFree.{got_plain, same_hooks}
+use Rattle.word_lowering.specs.OwnedCode.{entry_of, is_text as is_text_entry}
+use Rattle.std.specs.Prelude.{not}
 use Rattle.word_lowering.specs.Spots.{moves}
 use Rattle.word_lowering.proofs.LineFits.{are_of, single_is, single_number}
 use Rattle.word_lowering.proofs.Targets.{Target, target, pointed}
@@ -220,7 +222,8 @@ module _ (x : Basis) (labels : LabelsLead x) (g : Both) (rest : List BlockLine) 
     look_line names y =
         let line = plain (L.Look to from) in
         let f = are_of (type_in x is_value (body_of g) to) (type_in x is_location (body_of g) from)
-        (fits_here x.table x.blocks (body_of g) line rest y.stands) in
+        (and_parts (is_of (type_in x is_value (body_of g) to) (type_in x is_location (body_of g) from)) _
+        (fits_here x.table x.blocks (body_of g) line rest y.stands)).0 in
         using_settles x (starts g line rest) rest (g.call.temps.places from)
         (λ there. gives (scene_of (high x.table x.blocks (starts g line rest))) to (fetched (location_at g.call.temps there)))
         (λ there e. fetched_settles x g line rest y to f.ty from there names.1.0 (target x g line rest y to f.ty refl refl f.is names.0) f.is_other e refl)
@@ -241,8 +244,8 @@ module _ (x : Basis) (labels : LabelsLead x) (g : Both) (rest : List BlockLine) 
         (λ there e. taken_settles x g line rest y to f.ty (if_type (known x).types ty) how None from there names.1.0
         (target x g line rest y to f.ty refl refl f.is names.0)
         (a.is_other ∙ ap Some same) f.is_other e
-        (got_plain (around x.table x.blocks (body_of g)) (code_hooked x.table ty) (is_copied how.how) ty (house g.call.site (of_value to))
-        (location (around x.table x.blocks (body_of g)) from) (code_next x g line rest y)
+        (got_plain (around x.table x.blocks (body_of g)) (code_hooked x.table ty) (is_copied how.how) (not (is_text_entry (entry_of x.table ty))) ty
+        (house g.call.site (of_value to)) (location (around x.table x.blocks (body_of g)) from) (code_next x g line rest y)
         (same_hooks x ty ∙ (ap (gives_hooked (facts_in x.table)) (a.is_other ∙ ap Some same)
         ∙ (target x g line rest y to f.ty refl refl f.is names.0).unhooked))))
 
@@ -267,8 +270,8 @@ module _ (x : Basis) (labels : LabelsLead x) (g : Both) (rest : List BlockLine) 
         (λ there e. taken_settles x g line rest y to f.ty (if_type (known x).types ty) how act from there names.1.0
         (target x g line rest y to f.ty refl refl f.is names.0)
         (a.is_other ∙ ap Some same) f.is_other e
-        (got_plain (around x.table x.blocks (body_of g)) (code_hooked x.table ty) (is_copied how.how) ty (house g.call.site (of_value to))
-        (location (around x.table x.blocks (body_of g)) from) (code_next x g line rest y)
+        (got_plain (around x.table x.blocks (body_of g)) (code_hooked x.table ty) (is_copied how.how) (not (is_text_entry (entry_of x.table ty))) ty
+        (house g.call.site (of_value to)) (location (around x.table x.blocks (body_of g)) from) (code_next x g line rest y)
         (same_hooks x ty ∙ (ap (gives_hooked (facts_in x.table)) (a.is_other ∙ ap Some same)
         ∙ (target x g line rest y to f.ty refl refl f.is names.0).unhooked))))
 

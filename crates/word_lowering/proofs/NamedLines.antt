@@ -19,6 +19,7 @@ use Rattle.flat_code.specs.declared.line.From.{From}
 use Rattle.flat_code.specs.declared.line.From.TheVariants as F
 use Rattle.word_code.specs.declared.word.WordInstr.{WordInstr}
 use Rattle.flat_code.specs.Fits.{is_value, is_location, is_own, is_declared}
+use Rattle.hook_lifting.specs.declared.lifted.Hook.TheVariants.{Copies}
 use Rattle.word_lowering.specs.declared.homes.TheConstants.{FIRST, SECOND, THIRD, FIFTH, OWN_FROM}
 use Rattle.word_lowering.specs.declared.homes.Alias.{Alias}
 use Rattle.word_lowering.specs.declared.homes.Alias.TheVariants as alias
@@ -30,7 +31,7 @@ use Rattle.word_lowering.specs.declared.spots.Spot.{Spot}
 use Rattle.word_lowering.specs.declared.spots.Spot.TheVariants.{Held, Lies, Letter}
 use Rattle.word_lowering.specs.Layouts.{found, params_in, result_in}
 use Rattle.word_lowering.specs.Spots.{spot_of, shifted, moves, passes, clears, starts}
-use Rattle.word_lowering.specs.Stored.{part_at, entry_at, base_at, limit_at}
+use Rattle.word_lowering.specs.Stored.{part_at, entry_at, base_at, limit_at, is_hooked}
 use Rattle.word_lowering.specs.declared.texts.TheConstants.{LINE_END_AT}
 use Rattle.word_lowering.specs.Aliases.{is_read, text_in}
 use Rattle.word_lowering.specs.Operations.{word}
@@ -39,7 +40,7 @@ use Rattle.word_lowering.specs.WaitingCode.{waiter_at, waiter_house}
 use Rattle.word_lowering.specs.LineCode as lines
 use Rattle.word_lowering.specs.OwnedCode as owned
 use Rattle.word_lowering.proofs.HomesApart.{Each}
-use Rattle.word_lowering.proofs.CalledHooks.{assigned_named, got_named}
+use Rattle.word_lowering.proofs.CalledHooks.{assigned_named, got_named, hook_named}
 use Rattle.word_lowering.specs.WaitingCode.{gives_hooked}
 use Rattle.word_lowering.proofs.KeptCode.{past_named, owning_named, root_named}
 use Rattle.word_lowering.proofs.LayoutBounds.{IsBelow, IsParamBelow, IsGlobalBelow, found_below, global_below, params_each}
@@ -81,8 +82,7 @@ module _ (vars : ℕ) (many : OWN_FROM ≤ vars) where
   pieces_named to (P.Parts (suc n) ∷ pieces) h rest = pieces_named to pieces h rest
   pieces_named to (P.Text text ∷ pieces) h rest = pieces_named to pieces h rest
   pieces_named to (P.Nil ∷ pieces) h rest = pieces_named to pieces h rest
-  pieces_named to (P.Elements zero ∷ pieces) h rest = pieces_named (shifted 4 to) pieces (shifted_below vars 4 to h) rest
-  pieces_named to (P.Elements (suc n) ∷ pieces) h rest = pieces_named to pieces h rest
+  pieces_named to (P.Elements n ∷ pieces) h rest = pieces_named to pieces h rest
 
   spot_named : (to : Housed) (spot : Spot) (pieces : List Piece) {k : List WordInstr} → IsSpotBelow vars spot → AllNamed vars k
       → AllNamed vars (lines.constant_at to spot pieces k)
@@ -92,12 +92,17 @@ module _ (vars : ℕ) (many : OWN_FROM ≤ vars) where
       named.address vars many FIRST home (first_is vars many) h
       (named.constant vars many (second_is vars many) (named.store vars many (first_is vars many) (second_is vars many) rest))
 
-  constant_named : (x : Around) (read : Bool) (text : Option (List ℕ)) (to : Housed) (pieces : List Piece) {k : List WordInstr} → IsBelow vars to.home
-      → AllNamed vars k → AllNamed vars (lines.constant_by x read text to pieces k)
-  constant_named x true None to pieces h rest = spot_named to (spot_of to) pieces (spot_below vars to h) rest
-  constant_named x false None to pieces h rest = spot_named to (spot_of to) pieces (spot_below vars to h) rest
-  constant_named x true (Some text) to pieces h rest = lent_text_named vars many x to.alias to.home text h rest
-  constant_named x false (Some text) to pieces h rest = text_copied_named vars many x to.home text h rest
+  built_named : (x : Around) (hooked : Bool) (ty : ℕ) (to : Housed) (pieces : List Piece) {k : List WordInstr} → IsBelow vars to.home
+      → AllNamed vars k → AllNamed vars (lines.built_code x hooked ty to pieces k)
+  built_named x true ty to pieces h rest = hook_named vars many x Copies ty to.home (Static (lines.standing_at x pieces)) h tt rest
+  built_named x false ty to pieces h rest = spot_named to (spot_of to) pieces (spot_below vars to h) rest
+
+  constant_named : (x : Around) (read hooked : Bool) (text : Option (List ℕ)) (ty : ℕ) (to : Housed) (pieces : List Piece) {k : List WordInstr}
+      → IsBelow vars to.home → AllNamed vars k → AllNamed vars (lines.constant_by x read hooked text ty to pieces k)
+  constant_named x true hooked None ty to pieces h rest = built_named x hooked ty to pieces h rest
+  constant_named x false hooked None ty to pieces h rest = built_named x hooked ty to pieces h rest
+  constant_named x true hooked (Some text) ty to pieces h rest = lent_text_named vars many x to.alias to.home text h rest
+  constant_named x false hooked (Some text) ty to pieces h rest = text_copied_named vars many x to.home text h rest
 
   -- ---- addresses
   part_named : (to : ℕ) (home : Home) (at : ℕ) {k : List WordInstr} → to < vars → IsBelow vars home → AllNamed vars k
@@ -442,7 +447,9 @@ module _ (vars : ℕ) (many : OWN_FROM ≤ vars) where
         by O.Assign = moves_named (lines.operand_at hs 0) (lines.operand_at hs 1) a b rest
         by (O.Update operator) = update_named label operator hs e rest
         by O.Add = added_named vars many (lines.operand_at hs 0).home (owned.size_in x (lines.operand_at hs 0)) (lines.operand_at hs 1) a b rest
-        by O.Append = appended_named vars many x of hs e rest
+        by O.Append =
+            enough_named vars many 2 hs _ (appended_named vars many x (owned.is_char (owned.entry_of x.table (owned.type_of of 1))) label
+            (lines.operand_at hs 0).home (owned.type_of of 1) (lines.operand_at hs 1) a b rest) rest
         by O.SetLength =
             enough_named vars many 2 hs _ (sized_named vars many x (owned.is_text (entry_at x.table (lines.operand_at hs 0).ty)) label
             (lines.operand_at hs 0).ty (lines.operand_at hs 0).home (lines.variable_of (lines.operand_at hs 1)) a is_right rest) rest
@@ -467,11 +474,13 @@ module _ (vars : ℕ) (many : OWN_FROM ≤ vars) where
     line_named (L.Construct to how ty fields from) label k =
         clears_named (lines.value x to) (value_below to)
         (fields_named (lines.value x to).home ty fields (lines.operands x from) (value_below to) (operands_below from) k)
-    line_named (L.Constant to how ty pieces) label k = constant_named x (is_read how.how) (text_in pieces) (lines.value x to) pieces (value_below to) k
+    line_named (L.Constant to how ty pieces) label k =
+        constant_named x (is_read how.how) (is_hooked x.table ty) (text_in pieces) ty (lines.value x to) pieces (value_below to) k
     line_named (L.Call to how ty proc from) label k =
         named.spend vars many (called_named (lines.layout_at x proc).runs label proc ty to (lines.operands x from) (operands_below from) k)
     line_named (L.Get to from how ty) label k =
-        got_named vars many x (gives_hooked x.table ty && lines.is_copied how.how) ty (lines.value x to) (lines.location x from) (value_below to)
+        got_named vars many x (gives_hooked x.table ty && lines.is_copied how.how) (lines.is_seen_blank x ty) ty (lines.value x to) (lines.location x
+        from) (value_below to)
         (location_below from) k
     line_named (L.Look to from) label k = moves_named (lines.value x to) (lines.location x from) (value_below to) (location_below from) k
     line_named (L.Root to p global) label k =

@@ -1,5 +1,5 @@
 -- A text operand of a row, however it is given: the value of a temporary, or a location that is lent; a text or a character.
-use Rattle.std.proofs.Common.{◌≡◌, ◌⊎◌, inl, inr, ℕ, ◌+◌, ◌%◌, ◌^◌, ◌<◌, ◌≤◌, List, ◌∷◌, length, map, Option, Some, None, Bool, true, false, refl, sym, ap}
+use Rattle.std.proofs.Common.{◌≡◌, ◌⊎◌, inl, inr, ℕ, ◌+◌, ◌%◌, ◌^◌, ◌<◌, ◌≤◌, List, [], ◌∷◌, length, map, Option, Some, None, Bool, true, false, refl, sym, ap}
 use Rattle.std.proofs.Common.{subst, ◌∙◌, arith}
 use Rattle.std.specs.Prelude.{option_map, slice_get, ◌||◌}
 use Rattle.std.specs.Set.{is_member}
@@ -11,6 +11,7 @@ use Rattle.nim_types.specs.Table.{facts_in, type_at, types_in}
 use Rattle.nim_types.specs.Types as type
 use Rattle.nim_types.specs.Types.{Facts, Ty, same_text}
 use Rattle.nim_program.specs.declared.operation.Use.{Use}
+use Rattle.nim_program.specs.Ints.{low_byte}
 use Rattle.nim_program.specs.Kinds.{same_value}
 use Rattle.nim_meaning.specs.Here.{gives_hooked}
 use Rattle.nim_meaning.specs.Shapes.{is_given, is_lent}
@@ -31,6 +32,7 @@ use Rattle.heap_memory.specs.TextRoutines.{AreBytes}
 use Rattle.word_code.specs.declared.word.WordInstr.{WordInstr}
 use Rattle.word_code.proofs.ForCallers.{at as state_at, none as no_lines, sizes_same}
 use Rattle.word_lowering.specs.declared.handed.TheConstants.{LEFT_HANDLE_AT}
+use Rattle.word_lowering.specs.declared.homes.TheConstants.{OWN_FROM}
 use Rattle.word_lowering.specs.declared.homes.Alias.{Alias}
 use Rattle.word_lowering.specs.declared.homes.Alias.TheVariants as alias
 use Rattle.word_lowering.specs.declared.homes.Home.{Home as Place}
@@ -38,7 +40,7 @@ use Rattle.word_lowering.specs.declared.homes.Housed.{Housed}
 use Rattle.word_lowering.specs.declared.texts.TheConstants.{FIXED_BYTES}
 use Rattle.word_lowering.specs.Layouts.{found}
 use Rattle.word_lowering.specs.Lowered.{data_at}
-use Rattle.word_lowering.specs.Operands.{Around, location, named, operand}
+use Rattle.word_lowering.specs.Operands.{Around, location, named, operand, variable_of}
 use Rattle.word_lowering.specs.OwnedCode as owned
 use Rattle.word_lowering.specs.OwnedCode.{literal_text}
 use Rattle.word_lowering.specs.Stored.{entry_at}
@@ -46,6 +48,7 @@ use Rattle.word_lowering.specs.Texts.{members_of}
 use Rattle.word_lowering.proofs.AddressFacts.{at_homed, in_memory}
 use Rattle.word_lowering.proofs.AliasFits.{same_value as one_value}
 use Rattle.word_lowering.proofs.AllOperands.{given_load, given_value}
+use Rattle.word_lowering.proofs.Arithmetic.{small_byte}
 use Rattle.word_lowering.proofs.FixedTexts.{fixed_closed, fixed_there}
 use Rattle.word_lowering.proofs.BlankShapes.{of_handles}
 use Rattle.word_lowering.proofs.HookedReads.{value_lies}
@@ -63,18 +66,20 @@ use Rattle.word_lowering.proofs.Scenes.{Leads, site_of}
 use Rattle.word_lowering.proofs.SeenHandles.{led_behind, led_full, text_handle}
 use Rattle.word_lowering.proofs.ShapeFacts.{never}
 use Rattle.word_lowering.proofs.Sites.{globals_of, sigs}
-use Rattle.word_lowering.proofs.Sites.{Body, IsBody, IsTextual, There, looks, around, is_one_word, lines_of, type_of}
+use Rattle.word_lowering.proofs.Sites.{Body, IsBody, IsLaidOut, IsTextual, There, looks, around, is_one_word, lines_of, type_of}
 use Rattle.word_lowering.proofs.ReadFacts.{start_site}
 use Rattle.word_lowering.proofs.TextOperands.{FixedThere, IsText, text_at_handle}
 use Rattle.word_lowering.proofs.Told.{told_none}
 use Rattle.word_lowering.proofs.TypeEntries.{entry_text}
 use Rattle.word_lowering.proofs.TypeShapes.{Looks}
 use Rattle.word_lowering.proofs.ValueFacts.{HasType, IsHomed, has_type, look_of, place_there, type_in, value_plain, with_home}
-use Rattle.word_lowering.proofs.WrittenLines.{Writing}
+use Rattle.word_lowering.proofs.WrittenLines.{Writing, read, small, small_word}
 
 -- what lines with texts rest on: literals of procedures and names of enums are made of bytes
 pub record TextsBuilt (x : Basis) : Type 0 where
   pub letters : (b : Body) → IsBody x.table x.blocks b → (text : List ℕ) → is_member same_text (lines_texts (lines_of b)) text ≡ true → AreBytes text
+  -- and all else that is laid out
+  pub laid : (text : List ℕ) → IsLaidOut x.table x.blocks text → AreBytes text
   pub names : (ty : ℕ) (def : TypeDef) → entry_at x.table ty ≡ Some def → (n : ℕ) (text : List ℕ) → slice_get (members_of def) n ≡ Some text → AreBytes text
 
 -- what has something to do at its end has handles, and is no word
@@ -236,6 +241,14 @@ module _ (x : Basis) (said : Writing x) (texts : TextsBuilt x) (g : Both) (line 
           })
           go (inr text) = inr (record { temp = u; is = is; named_value = typed.named; textual = text; has = r })
 
+  -- a character, which is the word of its operand's variable
+  pub record IsLetter (f : From) (text : List ℕ) : Type 0 where
+    pub letter : ℕ
+    pub small : letter < 256
+    pub is : letter ∷ [] ≡ text
+    pub high : OWN_FROM ≤ variable_of (operand here f)
+    pub word_is : g.call.vars (variable_of (operand here f)) ≡ Some letter
+
   -- ---- one operand, and where its handle is made if it has none
 
   module _ (from : ℕ) (low : LEFT_HANDLE_AT ≤ from) (top : from + 12 ≤ FIXED_BYTES) (aligned : from % 4 ≡ 0) (k : List WordInstr) where
@@ -265,13 +278,13 @@ module _ (x : Basis) (said : Writing x) (texts : TextsBuilt x) (g : Both) (line 
             let leads = subst (Leads x.table x.blocks (sites_of g) g.ground g.world g.call.site g.call.temps there a.address) look a.leads_to in
             let q = and_parts (is_there g.world (location_at g.call.temps there)) (is_whole g.world (load g.world (location_at g.call.temps there))) seen in
             let full = led_full x (starts g line rest) y g.call (inl refl) there a.address block tt seen leads in
-            let r = led_stored x (starts g line rest) y g.call (inl refl) (inl refl) there a.address block full leads in
+            let r = led_stored x (starts g line rest) y g.call (inl refl) (inl refl) there a.address block (inr refl) full leads in
             let near = r.readable.near in
             subst (λ b. HasHandleAt x said g line rest y from (literal_text here from b k) k (owned.literal_home from b (location here t).home)
             (text_of g.world (load g.world (location_at g.call.temps there)))) (sym p.own)
             (subst (λ h. HasHandleAt x said g line rest y from k k h (text_of g.world (load g.world (location_at g.call.temps there)))) (sym a.home_is)
             (lying_handle from a.home (load g.world (location_at g.call.temps there)) a.address a.high_is a.points (omega (arith, near))
-            (led_behind x (starts g line rest) y g.call (inl refl) (inl refl) there a.address block tt q.0 leads) r.stored q.1 k))
+            (led_behind x (starts g line rest) y said.least g.call (inl refl) (inl refl) there a.address block tt q.0 leads) r.stored q.1 k))
         by (inr p) =
             subst (λ b. Has (Some D.Text) (named here b (house g.call.site (of_location t)))
             (text_of g.world (load g.world (location_at g.call.temps there)))) (sym p.is)
@@ -353,6 +366,22 @@ module _ (x : Basis) (said : Writing x) (texts : TextsBuilt x) (g : Both) (line 
           (char_here x said g line rest y from low top aligned t ty (value_of z) typed (given_value (g.call.temps.values t) z got) k
           (subst (λ d. Looks x.table d (shape_of (facts_in x.table) of)) entry (said.looks ty))))
       char_from (F.Place t) got typed entry is placed = never (sym (ap (λ u. hooked (form_of (facts_in x.table) u)) is) ∙ placed)
+
+      pub letter_from : (f : From) → fetch g.call.temps f ≡ Some z → type_from x g f ≡ Some of → entry_at x.table ty ≡ Some D.Char → of ≡ type.char
+          → IsPlacedSo f (hooked (form_of (facts_in x.table) of)) → IsLetter f (shown (facts_in x.table) g.world (Some of) z)
+      letter_from (F.Value t) got typed entry is placed =
+          let value_is = given_value (g.call.temps.values t) z got in
+          let looks_so = subst (λ d. Looks x.table d (shape_of (facts_in x.table) of)) entry (said.looks ty) in
+          let s = small x said g line rest y t ty (value_of z) typed value_is k g.world 256 looks_so in
+          record {
+            letter = s.0;
+            small = s.2;
+            is = ap (λ b. b ∷ []) (sym (ap low_byte s.1 ∙ small_byte s.0 s.2))
+                ∙ ap (λ v. entry_text g.world (Some D.Char) v) (sym (given_load g.world (g.call.temps.values t) z got)) ∙ shown_is (Some D.Char) entry;
+            high = (read x said g line rest y t ty (value_of z) typed value_is k g.world (Some 256) looks_so).high;
+            word_is = small_word x said g line rest y t ty (value_of z) typed value_is k g.world 256 looks_so;
+          }
+      letter_from (F.Place t) got typed entry is placed = never (sym (ap (λ u. hooked (form_of (facts_in x.table) u)) is) ∙ placed)
 
       pub operand_has : (f : From) → fetch g.call.temps f ≡ Some z → type_from x g f ≡ Some of → Joined (entry_at x.table ty) of
           → IsPlacedSo f (hooked (form_of (facts_in x.table) of))

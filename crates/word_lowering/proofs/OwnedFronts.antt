@@ -24,7 +24,7 @@ use Rattle.word_lowering.specs.declared.homes.Home.{Home}
 use Rattle.word_lowering.specs.declared.homes.Home.TheVariants.{Placed, Static, Variable}
 use Rattle.word_lowering.specs.declared.homes.Housed.{Housed}
 use Rattle.word_lowering.specs.declared.spots.Spot.TheVariants.{Held, Lies}
-use Rattle.word_lowering.specs.Operands.{Around, operand_at, one_less, text_at, word_argument}
+use Rattle.word_lowering.specs.Operands.{Around, operand_at, one_less, text_at, variable_of, word_argument}
 use Rattle.word_lowering.specs.OwnedCode as owned
 use Rattle.word_lowering.specs.RoutineCode.{all_handed, append_code, called_code, copy_code, handed_code, join_code, length_code, new_code, read_code}
 use Rattle.word_lowering.specs.RoutineCode.{show_code}
@@ -286,9 +286,25 @@ module _ (own many : ℕ) where
         copied_front to (Some (D.Exception name place parent)) (owned.base_of x.table ty) from
         (owned.entry_home LEFT_HANDLE_AT (Some (D.Exception name place parent)) from)
 
-    pub appended_front : (ty : Option ℕ) (from : Housed) (to home : Home)
-        → IsFront own many (λ k. owned.text_made x RIGHT_HANDLE_AT ty from (append_code to home k))
-    appended_front ty from to home = made_on RIGHT_HANDLE_AT ty from (append_code to home) (called_front FIRST TEXT_APPEND (Where to ∷ Where home ∷ []))
+    -- the labels of a character that is put in place, or by the routine
+    letter_front : 7 < own → 1 ≤ many → (to : Home) (from : ℕ) → IsFront own many (owned.added_letter_code own to from)
+    letter_front high more to from =
+        front_on own many (owned.in_place_code own to from)
+        (λ k. owned.letter_code RIGHT_HANDLE_AT from (append_code to (Static RIGHT_HANDLE_AT) (Label (own + 2) ∷ k)))
+        (front_address own many FIRST to (owned.in_place_lines own from)
+        (record { is = λ k. refl; fine = (inr high, (inr high, ((0, omega arith, omega arith), tt))) }))
+        (front_on own many (owned.letter_code RIGHT_HANDLE_AT from) (λ k. append_code to (Static RIGHT_HANDLE_AT) (Label (own + 2) ∷ k))
+        (record { is = λ k. refl; fine = tt })
+        (front_on own many (append_code to (Static RIGHT_HANDLE_AT)) (λ k. Label (own + 2) ∷ k)
+        (called_front FIRST TEXT_APPEND (Where to ∷ Where (Static RIGHT_HANDLE_AT) ∷ []))
+        (record { is = λ k. refl; fine = ((1, more, omega arith), tt) })))
+
+    pub appended_front : 7 < own → 1 ≤ many → (letter : Bool) (to : Home) (ty : Option ℕ) (from : Housed)
+        → IsFront own many (owned.appended_code x letter own to ty from)
+    appended_front high more true to ty from = letter_front high more to (variable_of from)
+    appended_front high more false to ty from =
+        let home : Home = owned.text_home x RIGHT_HANDLE_AT ty from in
+        made_on RIGHT_HANDLE_AT ty from (append_code to home) (called_front FIRST TEXT_APPEND (Where to ∷ Where home ∷ []))
 
     -- ---- lengths
 

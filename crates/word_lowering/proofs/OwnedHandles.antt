@@ -1,7 +1,8 @@
 -- Where the handle of a text or a sequence stands that a row changes: at the address of what a location leads to, which somebody owns.
 use Rattle.std.proofs.Common.{◌≡◌, ◌⊎◌, inl, inr, ℕ, List, Some, Bool, true, false, refl, sym, ap, subst, ◌∙◌, arith}
 use Rattle.nim_meaning.specs.State.{is_there, is_whole, load}
-use Rattle.nim_meaning.specs.Values.{Holds, Location}
+use Rattle.nim_meaning.specs.Places.{may_change}
+use Rattle.nim_meaning.specs.Values.{Base, Holds, Location, Made}
 use Rattle.flat_code.specs.declared.block.BlockLine.{BlockLine}
 use Rattle.flat_code.specs.Scene.{Located, Where, location_at}
 use Rattle.flat_code.specs.Shapes.{Shape, block, elements}
@@ -17,12 +18,12 @@ use Rattle.word_lowering.proofs.LetterShapes.{no_letter}
 use Rattle.word_lowering.proofs.HandleRows.{IsHandled}
 use Rattle.word_lowering.proofs.Keeping.{points_there}
 use Rattle.word_lowering.proofs.MovedLines.{own_plain}
-use Rattle.word_lowering.proofs.GoodLeads.{owned_or_text, owned_seen}
+use Rattle.word_lowering.proofs.GoodLeads.{data_base, owned_or_data, owned_seen}
 use Rattle.word_lowering.proofs.Lines.{Basis, IsGood, all_sites, starts}
 use Rattle.word_lowering.proofs.Located.{owned_readable}
 use Rattle.word_lowering.proofs.OutPlaces.{Written, far_written, high_in_memory, letter_written, own_written, written_at}
 use Rattle.word_lowering.proofs.Related.{Both, body_of}
-use Rattle.word_lowering.proofs.Scenes.{FromLiteral, FromOwned, IsNamed, IsOwned, address_of, house, looked, of_location, of_place}
+use Rattle.word_lowering.proofs.Scenes.{FromData, FromOwned, IsMade, IsNamed, IsOwned, address_of, house, looked, of_location, of_place}
 use Rattle.word_lowering.proofs.ShapeFacts.{never}
 use Rattle.word_lowering.proofs.Sites.{around, is_one_word}
 use Rattle.word_lowering.proofs.TextRowRuns.{IsAt}
@@ -53,17 +54,27 @@ module _ (x : Basis) (g : Both) (line : BlockLine) (rest : List BlockLine) (y : 
     pub owned : FromOwned x.table (all_sites x g line rest y) g.ground g.world location_is address s
     pub at_home : IsAt g.call.site.base g.call.vars (location (around x.table x.blocks (body_of g)) t).home address
 
-  -- it isn't the text of a literal
-  abbrev pub IsNoText : (there : Where) → Shape → Type 0
-  IsNoText there s = (l : Location) (a : ℕ) → there ≡ Located l → FromLiteral x.table x.blocks l a s → ⊥
+  -- it isn't in a constant
+  abbrev pub IsNoData : (there : Where) → Shape → Type 0
+  IsNoData there s = (l : Location) (a : ℕ) → there ≡ Located l → FromData x.table x.blocks g.ground l a s → ⊥
+
+  made_still : (b : Base) → IsMade b → may_change b ≡ true → ⊥
+  made_still (Made v) made changes = never changes
+  made_still b made changes = absurd made
+
+  -- a constant never changes
+  pub no_constant : (there : Where) (s : Shape) → may_change (location_at g.call.temps there).base ≡ true → IsNoData there s
+  no_constant there s changes k a is f =
+      made_still k.base (data_base x (starts g line rest) y k a s f)
+      (sym (ap (λ w. may_change (location_at g.call.temps w).base) is) ∙ changes)
 
   -- of what is no word
   pub owned_many : (t : ℕ) (there : Where) → IsNamed g.call.site (of_location t)
-      → is_standing (house g.call.site (of_location t)).kind ≡ true → g.call.temps.places t ≡ Some there → (s : Shape) → IsNoText there s
+      → is_standing (house g.call.site (of_location t)).kind ≡ true → g.call.temps.places t ≡ Some there → (s : Shape) → IsNoData there s
       → is_one_word s ≡ false
       → looked x.table g.call.site (of_location t) ≡ s → is_there g.world (location_at g.call.temps there) ≡ true
       → is_whole g.world (load g.world (location_at g.call.temps there)) ≡ true → OwnedAt t there s
-  owned_many t there n standing e s no_text many look live whole =
+  owned_many t there n standing e s no_data many look live whole =
       let w = written_at x g line rest y t there n standing e in
       by w.location_is w.is
       (subst (λ u. Written x g line rest y (location (around x.table x.blocks (body_of g)) t) w.location_is u) look w.written)
@@ -74,9 +85,9 @@ module _ (x : Basis) (g : Both) (line : BlockLine) (rest : List BlockLine) (y : 
       live_at : (l : Location) → there ≡ Located l → is_there g.world l ≡ true
       live_at l is = subst (λ w. is_there g.world (location_at g.call.temps w) ≡ true) is live
 
-      own : (l : Location) (a : ℕ) → there ≡ Located l → IsOwned l.base ⊎ FromLiteral x.table x.blocks l a s → IsOwned l.base
+      own : (l : Location) (a : ℕ) → there ≡ Located l → IsOwned l.base ⊎ FromData x.table x.blocks g.ground l a s → IsOwned l.base
       own l a is (inl owned) = owned
-      own l a is (inr f) = absurd (no_text l a is f)
+      own l a is (inr f) = absurd (no_data l a is f)
 
       by : (l : Location) → there ≡ Located l → Written x g line rest y (location (around x.table x.blocks (body_of g)) t) l s → OwnedAt t there s
       by l is (own_written p there_is own same other old slot at) =
@@ -110,9 +121,9 @@ module _ (x : Basis) (g : Both) (line : BlockLine) (rest : List BlockLine) (y : 
             });
           }
       by l is (letter_written home spot high a points may letter leads) = never (sym (no_letter s many) ∙ letter)
-      by l is (far_written home spot high a points may leads) =
+      by l is (far_written home spot high a points stood leads) =
           let owned : FromOwned x.table (all_sites x g line rest y) g.ground g.world l a s
-          = owned_seen x (starts g line rest) y l a s (own l a is (owned_or_text x (starts g line rest) y l a s may leads)) leads
+          = owned_seen x (starts g line rest) y l a s (own l a is (owned_or_data x (starts g line rest) y l a s leads)) leads
           (subst (λ w. is_whole g.world (load g.world (location_at g.call.temps w)) ≡ true) is whole) in
           let near = (owned_readable x (starts g line rest) y l a s owned (live_at l is)).near in
           record {
@@ -125,7 +136,7 @@ module _ (x : Basis) (g : Both) (line : BlockLine) (rest : List BlockLine) (y : 
           }
 
   pub owned_at : (t : ℕ) (there : Where) → IsNamed g.call.site (of_location t)
-      → is_standing (house g.call.site (of_location t)).kind ≡ true → g.call.temps.places t ≡ Some there → (s : Shape) → IsNoText there s → IsHandled s
+      → is_standing (house g.call.site (of_location t)).kind ≡ true → g.call.temps.places t ≡ Some there → (s : Shape) → IsNoData there s → IsHandled s
       → looked x.table g.call.site (of_location t) ≡ s → is_there g.world (location_at g.call.temps there) ≡ true
       → is_whole g.world (load g.world (location_at g.call.temps there)) ≡ true → OwnedAt t there s
-  owned_at t there n standing e s no_text handled look live whole = owned_many t there n standing e s no_text (no_word s handled) look live whole
+  owned_at t there n standing e s no_data handled look live whole = owned_many t there n standing e s no_data (no_word s handled) look live whole

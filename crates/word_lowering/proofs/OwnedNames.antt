@@ -366,13 +366,23 @@ module _ (vars : ℕ) (many : OWN_FROM ≤ vars) where
     shown_named (Some (D.Exception name place parent)) to ty from t f rest =
         copied_named to (Some (D.Exception name place parent)) (owned.base_of x.table ty) from t f rest
 
-    pub appended_named : (of : List (Option ℕ)) (hs : List Housed) {k : List WordInstr} → AllBelow hs → AllNamed vars k
-        → AllNamed vars (owned.text_made x RIGHT_HANDLE_AT (owned.type_of of 1) (operand_at hs 1)
-        (append_code (operand_at hs 0).home (owned.right_of x of hs) k))
-    appended_named of hs e rest =
-        entry_named RIGHT_HANDLE_AT (owned.entry_of x.table (owned.type_of of 1)) (operand_at hs 1) (at_below hs 1 e)
-        (called_named FIRST _ (Where (operand_at hs 0).home ∷ Where (owned.right_of x of hs) ∷ []) one (omega arith)
-        (at_below hs 0 e, (right_below of hs e, tt)) rest)
+    added_letter_named : (label : ℕ) (to : Home) (from : ℕ) {k : List WordInstr} → IsBelow vars to → from < vars → AllNamed vars k
+        → AllNamed vars (owned.added_letter_code label to from k)
+    added_letter_named label to from t i rest =
+        named.address vars many FIRST to one t (named.load vars many two one (named.sum vars many three one (named.load vars many three three
+        (named.constant vars many four (named.branch vars many three four (named.sum vars many five three (named.load vars many five five
+        (named.compute vars many four four five (named.sum vars many five two (named.branch vars many five four (named.compute vars many five three two
+        (named.store vars many five i (named.sum vars many two two (named.store vars many one two (named.sum vars many one one
+        (named.store vars many one three (named.jump vars many (named.label vars many (letter_named RIGHT_HANDLE_AT from i
+        (called_named FIRST _ (Where to ∷ Where (Static RIGHT_HANDLE_AT) ∷ []) one (omega arith) (t, (tt, tt)) (named.label vars many rest)))))))))))))))))))))
+
+    pub appended_named : (letter : Bool) (label : ℕ) (to : Home) (ty : Option ℕ) (from : Housed) {k : List WordInstr} → IsBelow vars to
+        → IsBelow vars from.home → AllNamed vars k → AllNamed vars (owned.appended_code x letter label to ty from k)
+    appended_named true label to ty from t f rest = added_letter_named label to (variable_of from) t (variable_is from f) rest
+    appended_named false label to ty from t f rest =
+        entry_named RIGHT_HANDLE_AT (owned.entry_of x.table ty) from f
+        (called_named FIRST _ (Where to ∷ Where (owned.text_home x RIGHT_HANDLE_AT ty from) ∷ []) one (omega arith)
+        (t, (entry_home_below RIGHT_HANDLE_AT (owned.entry_of x.table ty) from f, tt)) rest)
 
     -- ---- lengths
 

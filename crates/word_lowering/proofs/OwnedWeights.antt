@@ -17,7 +17,7 @@ use Rattle.flat_code.specs.Sizes.{pieces_weight}
 use Rattle.rv32_isa.specs.declared.micro_op.Size.TheVariants.{Byte, Word as whole}
 use Rattle.word_code.specs.declared.word.Test.TheVariants as test
 use Rattle.word_code.specs.declared.word.WordInstr.{WordInstr}
-use Rattle.word_code.specs.declared.word.WordInstr.TheVariants.{Branch, Call, Constant, Load, Sum}
+use Rattle.word_code.specs.declared.word.WordInstr.TheVariants.{Branch, Call, Constant, Label, Load, Sum}
 use Rattle.word_lowering.specs.declared.handed.TheConstants.{LEFT_HANDLE_AT, RIGHT_HANDLE_AT}
 use Rattle.word_lowering.specs.declared.handed.Handed.{Handed}
 use Rattle.word_lowering.specs.declared.handed.Handed.TheVariants.{Number, Where}
@@ -191,9 +191,12 @@ module _ (x : Around) where
       copied_weighs to (Some (D.Exception name place parent)) (owned.base_of x.table ty) from
       (owned.entry_home LEFT_HANDLE_AT (Some (D.Exception name place parent)) from) k
 
-  pub append_weighs : (ty : Option ℕ) (from : Housed) (to home : Home) (k : List WordInstr)
-      → length (owned.text_made x RIGHT_HANDLE_AT ty from (append_code to home k)) ≤ 12 + length k
-  append_weighs ty from to home k =
+  pub append_weighs : (letter : Bool) (label : ℕ) (to : Home) (ty : Option ℕ) (from : Housed) (k : List WordInstr)
+      → length (owned.appended_code x letter label to ty from k) ≤ 32 + length k
+  append_weighs true label to ty from k =
+      let b = called_weighs FIRST TEXT_APPEND (Where to ∷ Where (Static RIGHT_HANDLE_AT) ∷ []) (Label (label + 2) ∷ k) in omega (arith, b)
+  append_weighs false label to ty from k =
+      let home : Home = owned.text_home x RIGHT_HANDLE_AT ty from in
       let a = made_weighs RIGHT_HANDLE_AT ty from (append_code to home k) in
       let b = called_weighs FIRST TEXT_APPEND (Where to ∷ Where home ∷ []) k in
       omega (arith, a, b)
@@ -291,27 +294,32 @@ lent_text_weighs x (alias.Value t) to text k = omega arith
 lent_text_weighs x (alias.Node n) to text k = omega arith
 lent_text_weighs x (alias.Text behind bytes) to text k = omega arith
 
-pub constant_weighs : (x : Around) (read : Bool) (pieces : List Piece) (to : Housed) (k : List WordInstr)
-    → length (lines.constant_by x read (text_in pieces) to pieces k) ≤ 5 + pieces_weight pieces + length k
-constant_weighs x read pieces to k = by read pieces refl
+pub constant_weighs : (x : Around) (read hooked : Bool) (ty : ℕ) (pieces : List Piece) (to : Housed) (k : List WordInstr)
+    → length (lines.constant_by x read hooked (text_in pieces) ty to pieces k) ≤ 5 + pieces_weight pieces + length k
+constant_weighs x read hooked ty pieces to k = by read pieces refl
   where
-    none : (read : Bool) → length (lines.constant_by x read None to pieces k) ≤ 5 + pieces_weight pieces + length k
-    none true = spot_weighs to (spot_of to) pieces k
-    none false = spot_weighs to (spot_of to) pieces k
+    built : (hooked : Bool) → length (lines.built_code x hooked ty to pieces k) ≤ 5 + pieces_weight pieces + length k
+    built true = omega arith
+    built false = spot_weighs to (spot_of to) pieces k
+
+    none : (read : Bool) → length (lines.constant_by x read hooked None ty to pieces k) ≤ 5 + pieces_weight pieces + length k
+    none true = built hooked
+    none false = built hooked
 
     one : (read : Bool) (text : List ℕ) → pieces ≡ P.Text text ∷ [] →
-        length (lines.constant_by x read (Some text) to pieces k) ≤ 5 + pieces_weight pieces + length k
+        length (lines.constant_by x read hooked (Some text) ty to pieces k) ≤ 5 + pieces_weight pieces + length k
     one true text e = let w : pieces_weight pieces ≡ 6 = ap pieces_weight e in let h = lent_text_weighs x to.alias to.home text k in omega (arith, w, h)
     one false text e =
         let w : pieces_weight pieces ≡ 6 = ap pieces_weight e in let h = text_copied_weighs x to.home text k in omega (arith, w, h)
 
-    no_text : (read : Bool) → text_in pieces ≡ None → length (lines.constant_by x read (text_in pieces) to pieces k) ≤ 5 + pieces_weight pieces + length k
-    no_text read e = subst (λ o. length (lines.constant_by x read o to pieces k) ≤ 5 + pieces_weight pieces + length k) (sym e) (none read)
+    no_text : (read : Bool) → text_in pieces ≡ None → length (lines.constant_by x read hooked (text_in pieces) ty to pieces k) ≤ 5 + pieces_weight pieces
+        + length k
+    no_text read e = subst (λ o. length (lines.constant_by x read hooked o ty to pieces k) ≤ 5 + pieces_weight pieces + length k) (sym e) (none read)
 
     by : (read : Bool) (same : List Piece) → pieces ≡ same →
-        length (lines.constant_by x read (text_in pieces) to pieces k) ≤ 5 + pieces_weight pieces + length k
+        length (lines.constant_by x read hooked (text_in pieces) ty to pieces k) ≤ 5 + pieces_weight pieces + length k
     by read (P.Text text ∷ []) e =
-        subst (λ o. length (lines.constant_by x read o to pieces k) ≤ 5 + pieces_weight pieces + length k) (sym (ap text_in e)) (one read text e)
+        subst (λ o. length (lines.constant_by x read hooked o ty to pieces k) ≤ 5 + pieces_weight pieces + length k) (sym (ap text_in e)) (one read text e)
     by read [] e = no_text read (ap text_in e)
     by read (P.Text text ∷ piece ∷ same) e = no_text read (ap text_in e)
     by read (P.Ordinal z ∷ same) e = no_text read (ap text_in e)

@@ -1,7 +1,7 @@
 -- Lines that lead to a part of what stands at a location are followed.
 use Rattle.std.proofs.Common.{inr, ◌≡◌, ℕ, ◌+◌, ◌^◌, ◌<◌, ◌≤◌, List, [], ◌∷◌, ◌++◌, Some, true, refl, sym, ap, subst, ◌∙◌, arith, inl, Bool, false}
 use Rattle.std.specs.Prelude.{◌&&◌, not}
-use Rattle.nim_meaning.specs.Values.{Value, deeper}
+use Rattle.nim_meaning.specs.Values.{Value, deeper, part}
 use Rattle.nim_meaning.specs.LeftOut.{is_exception_type}
 use Rattle.flat_code.specs.declared.block.BlockLine.{BlockLine}
 use Rattle.flat_code.specs.declared.line.Line.TheVariants as L
@@ -35,7 +35,8 @@ use Rattle.word_lowering.proofs.OrdinalRuns.{but_one, put_here}
 use Rattle.word_lowering.proofs.OutPlaces.{written_at, written_stands}
 use Rattle.word_lowering.proofs.ReadFacts.{data_near, owned_near, value_near, waiting_near}
 use Rattle.word_lowering.proofs.Related.{Both, body_of, within, high}
-use Rattle.word_lowering.proofs.Scenes.{reached_so, Ground, Leads, Reaches, Stood, IsLedBy, IsNamed, IsThere, Points, house, looked, of_location, of_place}
+use Rattle.word_lowering.proofs.Scenes.{is_fixed, reached_so, Ground, Leads, Reaches, Stood, IsLedBy, IsNamed, IsThere, Points, house, looked, of_location}
+use Rattle.word_lowering.proofs.Scenes.{of_place}
 use Rattle.word_lowering.proofs.Scenes.{of_value, of_waiting}
 use Rattle.word_lowering.proofs.Settling.{code_here, code_next, LabelsLead}
 use Rattle.word_lowering.proofs.ShapeFacts.{never, shape_bytes, nth_shape, of_numbers}
@@ -59,6 +60,9 @@ use Rattle.word_lowering.proofs.LocationHouses.{homed_house}
 use Rattle.word_lowering.specs.Stored.{part_at}
 use Rattle.word_lowering.proofs.HookedMoves.{BitsHere}
 use Rattle.word_lowering.proofs.BlankShapes.{of_handles}
+use Rattle.word_lowering.proofs.FixedParts.{fixed_step}
+use Rattle.word_lowering.proofs.FixedValues.{FixedAt}
+use Rattle.word_lowering.proofs.StoredParts.{part_last}
 
 -- ---- a step further from a location
 
@@ -113,9 +117,16 @@ module _ (x : Basis) (sites : List Site) (s : Site) (ground : Ground) (world : W
     path = path_on (looked x.table f.site (of_waiting f.node)) l.path f.offset t i o u f.path step;
     address = (let e = f.address in omega (arith, e));
   })))
-  leads_on (Located l) a o t u i step (inr (inl (inr f))) = absurd (subst (λ s. Step s i o u) f.shape step)
+  leads_on (Located l) a o t u i step (inr (inl (inr f))) = inr (inl (inr (record {
+    value = f.value;
+    base = f.base;
+    stands = subst (FixedAt (is_fixed ground) (a + o) u) (sym (part_last f.value l.path i))
+        (fixed_step (is_fixed ground) a t (part f.value l.path) i o u step f.stands);
+    near = (let n = f.near in let w = step_within t i o u step in omega (arith, n, w));
+  })))
   leads_on (Located l) a o t u i step (inr (inl (inl f))) = inr (inl (inl (record {
     pieces = f.pieces;
+    plain = f.plain;
     one = f.one;
     among = f.among;
     base = f.base;
@@ -145,7 +156,7 @@ module _ (x : Basis) (g : Both) (line : BlockLine) (rest : List BlockLine) (y : 
       → Leads x.table x.blocks (all_sites x g line rest y) g.ground g.world g.call.site g.call.temps there a t → a + shape_bytes t < 2 ^ 32
   leads_near (Located l) a t (inr (inr (inl f))) = f.near
   leads_near (Located l) a t (inr (inr (inr f))) = waiting_near x (all_sites x g line rest y) y.linked l a t f
-  leads_near (Located l) a t (inr (inl f)) = data_near x l a t f
+  leads_near (Located l) a t (inr (inl f)) = data_near x g.ground l a t f
   leads_near (Located l) a t (inl f) = owned_near x (all_sites x g line rest y) y.linked g.ground g.world l a t (inl f)
   leads_near (Within from path) a t f = value_near x (all_sites x g line rest y) y.linked g.call.site g.call.temps from path a t (inl refl) f
 

@@ -134,8 +134,7 @@ pieces_weigh to (P.Parts zero ∷ pieces) k = let i = pieces_weigh (shifted 4 to
 pieces_weigh to (P.Parts (suc n) ∷ pieces) k = let i = pieces_weigh to pieces k in omega (arith, i)
 pieces_weigh to (P.Text text ∷ pieces) k = let i = pieces_weigh to pieces k in omega (arith, i)
 pieces_weigh to (P.Nil ∷ pieces) k = let i = pieces_weigh to pieces k in omega (arith, i)
-pieces_weigh to (P.Elements zero ∷ pieces) k = let i = pieces_weigh (shifted 4 to) pieces k in omega (arith, i)
-pieces_weigh to (P.Elements (suc n) ∷ pieces) k = let i = pieces_weigh to pieces k in omega (arith, i)
+pieces_weigh to (P.Elements n ∷ pieces) k = let i = pieces_weigh to pieces k in omega (arith, i)
 
 pub spot_weighs : (to : Housed) (spot : Spot) (pieces : List Piece) (k : List WordInstr)
     → length (lines.constant_at to spot pieces k) ≤ 5 + pieces_weight pieces + length k

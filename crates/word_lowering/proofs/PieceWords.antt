@@ -1,14 +1,14 @@
 -- The words of constants: pieces have those of the value to which they come.
 use Rattle.std.proofs.Common.{◌≡◌, ℕ, zero, suc, ◌+◌, ◌≤◌, List, [], ◌∷◌, ◌++◌, length, true, Ok, refl, sym, ap, subst, ◌∙◌}
-use Rattle.std.proofs.Common.{arith, append_assoc, append-nil, None, ℤ}
+use Rattle.std.proofs.Common.{arith, append_assoc, append-nil, None, ℤ, false}
 use Rattle.std.specs.Prelude.{◌-◌, nat_le, ◌&&◌}
-use Rattle.std.proofs.lemmas.Bool.{and_parts, eqb-true, leb-true}
+use Rattle.std.proofs.lemmas.Bool.{and_parts, both_ways, eqb-true, leb-true}
 use Rattle.nim_meaning.specs.Values.{Value, Number, Parts, Handle, Fixed, Ref, Resource, Gone, Vacant, Values, Nil, More, bytes, bytes_all}
 use Rattle.rv32_isa.specs.declared.micro_op.Size.TheVariants.{Word}
 use Rattle.flat_code.specs.declared.line.Piece.{Piece}
 use Rattle.flat_code.specs.declared.line.Piece.TheVariants as P
 use Rattle.word_code.specs.Memory.{Memory, number_at}
-use Rattle.flat_code.specs.Pieces.{gathered, read_on, last_read, value_of, are_one, pieces_bytes, piece_words}
+use Rattle.flat_code.specs.Pieces.{gathered, read_on, last_read, value_of, are_one, has_links, pieces_bytes, piece_words}
 use Rattle.word_lowering.specs.Aliases.{text_in}
 use Rattle.word_lowering.specs.Operations.{word}
 use Rattle.word_lowering.proofs.InMemory.{IsAt, AreAt, OfNumbers, AllOfNumbers, parts_bytes}
@@ -161,24 +161,21 @@ gathered_one n pieces before one =
     subst (λ k. are_one pieces k ≡ true) (sym (gathered_length n before Nil (few_before n pieces before one)))
     (and_parts (nat_le n (length before)) (are_one pieces (suc (length before - n))) one).1
 
-read_words : (pieces : List Piece) (before : List Value) → are_one pieces (length before) ≡ true → Reads pieces before
-read_words [] before one = (sym (append-nil (stack_words before)), eqb-true (length before) 1 one)
-read_words (P.Ordinal z ∷ pieces) before one = more_read (Number z) pieces before (word z ∷ []) refl (read_words pieces (Number z ∷ before) one)
-read_words (P.Text text ∷ pieces) before one = more_read (Fixed text) pieces before [] refl (read_words pieces (Fixed text ∷ before) one)
-read_words (P.Nil ∷ pieces) before one = more_read (Ref None) pieces before [] refl (read_words pieces (Ref None ∷ before) one)
-read_words (P.Parts zero ∷ pieces) before one =
-    more_read (Parts Nil) pieces before (0 ∷ []) refl (read_words pieces (Parts Nil ∷ before) (gathered_one 0 pieces before one))
-read_words (P.Elements zero ∷ pieces) before one =
-    more_read (Parts Nil) pieces before (0 ∷ []) refl (read_words pieces (Parts Nil ∷ before) (gathered_one 0 pieces before one))
-read_words (P.Parts (suc n) ∷ pieces) before one =
+read_words : (pieces : List Piece) (before : List Value) → has_links pieces ≡ false → are_one pieces (length before) ≡ true → Reads pieces before
+read_words [] before plain one = (sym (append-nil (stack_words before)), eqb-true (length before) 1 one)
+read_words (P.Ordinal z ∷ pieces) before plain one =
+    more_read (Number z) pieces before (word z ∷ []) refl (read_words pieces (Number z ∷ before) plain one)
+read_words (P.Text text ∷ pieces) before plain one = absurd (both_ways true plain refl)
+read_words (P.Nil ∷ pieces) before plain one = more_read (Ref None) pieces before [] refl (read_words pieces (Ref None ∷ before) plain one)
+read_words (P.Parts zero ∷ pieces) before plain one =
+    more_read (Parts Nil) pieces before (0 ∷ []) refl (read_words pieces (Parts Nil ∷ before) plain (gathered_one 0 pieces before one))
+read_words (P.Parts (suc n) ∷ pieces) before plain one =
     parts_read n before pieces (few_before (suc n) pieces before one)
-    (read_words pieces (gathered (suc n) before Nil) (gathered_one (suc n) pieces before one))
-read_words (P.Elements (suc n) ∷ pieces) before one =
-    parts_read n before pieces (few_before (suc n) pieces before one)
-    (read_words pieces (gathered (suc n) before Nil) (gathered_one (suc n) pieces before one))
+    (read_words pieces (gathered (suc n) before Nil) plain (gathered_one (suc n) pieces before one))
+read_words (P.Elements n ∷ pieces) before plain one = absurd (both_ways true plain refl)
 
-pub words_are : (pieces : List Piece) → are_one pieces 0 ≡ true → piece_words pieces ≡ words_in (value_of pieces)
-words_are pieces one = let r = read_words pieces [] one in sym r.0 ∙ by (read_on pieces []) r.1
+pub words_are : (pieces : List Piece) → has_links pieces ≡ false → are_one pieces 0 ≡ true → piece_words pieces ≡ words_in (value_of pieces)
+words_are pieces plain one = let r = read_words pieces [] plain one in sym r.0 ∙ by (read_on pieces []) r.1
   where
     by : (all : List Value) → length all ≡ 1 → stack_words all ≡ words_in (last_read all)
     by [] e = absurd (omega (arith, e))

@@ -232,7 +232,7 @@ module _ (x : Basis) (labels : LabelsLead x) (g : Both) (rest : List BlockLine) 
           (λ f v other ne has. put_other g.call.vars u a.address v
           (variables_apart x.table x.blocks g.call.site (of_place p) f u v y.linked.0 place_is other (λ s. ne (sym s)) home.0 has))
           (put_other g.call.vars u a.address LEFT (λ s. absurd (let low = home.1 in omega (arith, s, low))))
-          (is_stood x.table x.blocks sites g.ground g.world l a.address (looked x.table g.call.site (of_place p)) blocks_in leads) leads rest
+          (is_stood x.table x.blocks sites g.ground g.world l a.address (looked x.table g.call.site (of_place p)) leads) leads rest
           (stands_next x.table x.blocks (body_of g) stands_line rest y.stands))
           1 1 g.call.temps (stands_world x g stands_line rest y p place_is stands.1 stood l)
           (subst (λ z. Runs x.live (all_procs x) 1 (at (within x.table x.blocks g) g.memory (address u z ∷ next) g.call.vars g.words)

@@ -11,6 +11,7 @@ use Rattle.nim_types.specs.Types.{same_text, Ty}
 use Rattle.nim_types.specs.Table.{IsTable, facts_in, type_at, types_in}
 use Rattle.word_code.specs.declared.word.TheConstants.{SPARE_ROOM}
 use Rattle.flat_code.specs.declared.line.Line.{Line}
+use Rattle.flat_code.specs.declared.line.Piece.{Piece}
 use Rattle.flat_code.specs.declared.place.PlaceKind.{PlaceKind}
 use Rattle.flat_code.specs.declared.place.PlaceKind.TheVariants as K
 use Rattle.flat_code.specs.declared.place.FlatPlace.{FlatPlace}
@@ -57,6 +58,7 @@ use Rattle.word_lowering.proofs.NamedProcs.{fits_by}
 use Rattle.word_lowering.proofs.FirstPlaces.{ParamsAre, Orderly}
 use Rattle.word_lowering.proofs.Callees.{Callee}
 use Rattle.word_lowering.proofs.ShapeFacts.{never}
+use Rattle.word_lowering.proofs.LinkedItems.{CodeHas, HaveConstant}
 use Rattle.word_lowering.proofs.Sites.{Body, around, Among, sigs, globals_of, type_of, IsBody}
 use Rattle.word_lowering.proofs.LayoutBounds.{params_below, kept_within}
 use Rattle.word_lowering.proofs.PlaceFacts.{one_found, own_home, declared_own}
@@ -289,6 +291,7 @@ module _ (table : List TypeDef) (blocks : Code BlockLine) where
     texts : texts_in ps ≡ behind_it ++ (texts_of (map block_plain proc.lines) ++ others)
     among : (text : List ℕ) → is_member same_text (lines_texts (map block_plain proc.lines)) text ≡ true
         → is_member same_text (code_texts block_plain ps) text ≡ true
+    constants : (pieces : List Piece) → HaveConstant (map block_plain proc.lines) pieces → CodeHas ps pieces
     sign : signature_of (known_in table) proc.places ≡ s
     block : slice_get (before_last (map (proc_of (known_in table)) ps)) i ≡ Some (proc_of (known_in table) proc)
     layout : slice_get (layouts table FIXED_BYTES ps) i ≡ Some (own_of proc)
@@ -317,6 +320,7 @@ module _ (table : List TypeDef) (blocks : Code BlockLine) where
         others = [];
         texts = ap (λ z. texts_in (q ∷ ps) ++ z) (sym (append-nil (texts_of (map block_plain p.lines))));
         among = λ text i. has_before text (lines_texts (map block_plain p.lines)) (code_texts block_plain (q ∷ ps)) i;
+        constants = λ pieces i. inl i;
         sign = some_same (signature_of (known_in table) p.places) s h;
         block = refl;
         layout = refl;
@@ -348,6 +352,7 @@ module _ (table : List TypeDef) (blocks : Code BlockLine) where
             ∙ append_assoc r.behind_it (texts_of (map block_plain r.proc.lines) ++ r.others) (texts_of (map block_plain p.lines))
             ∙ ap (λ z. r.behind_it ++ z) (append_assoc (texts_of (map block_plain r.proc.lines)) r.others (texts_of (map block_plain p.lines)));
         among = λ text i. has_behind text (lines_texts (map block_plain p.lines)) (code_texts block_plain (q ∷ ps)) (r.among text i);
+        constants = λ pieces i. inr (r.constants pieces i);
         sign = r.sign;
         block = r.block;
         layout = r.layout;
@@ -395,6 +400,11 @@ module _ (table : List TypeDef) (blocks : Code BlockLine) where
   last_among none p [] text i = has_before text (lines_texts (map block_plain p.lines)) [] i
   last_among none p (q ∷ ps) text i =
       has_behind text (lines_texts (map block_plain p.lines)) (code_texts block_plain (q ∷ ps)) (last_among p q ps text i)
+
+  last_constants : (none p : CodeProc BlockLine) (ps : List (CodeProc BlockLine)) (pieces : List Piece)
+      → HaveConstant (map block_plain (last_of none (p ∷ ps)).lines) pieces → CodeHas (p ∷ ps) pieces
+  last_constants none p [] pieces i = inl i
+  last_constants none p (q ∷ ps) pieces i = inr (last_constants p q ps pieces i)
 
   pub start_laid : (p : CodeProc BlockLine) (ps : List (CodeProc BlockLine)) → blocks.procs ≡ p ∷ ps
       → start_layout table blocks.procs ≡ layout_of table true FIXED_BYTES (last_of no_proc blocks.procs)
@@ -499,7 +509,7 @@ module _ (table : List TypeDef) (blocks : Code BlockLine) where
         is_called = is_body table blocks is_table have false c.proc literals (proc_number proc) c.tested (record {
           globals = λ e. absurd (false≢true e);
           layout = λ e. absurd (false≢true e);
-        }) (record { behind = c.behind_it; others = c.others; whole = c.texts; at = omega arith; among = c.among })
+        }) (record { behind = c.behind_it; others = c.others; whole = c.texts; at = omega arith; among = c.among; constants = c.constants })
 
     -- the start code, where there is one
     pub start_is_body : (p : CodeProc BlockLine) (ps : List (CodeProc BlockLine)) → blocks.procs ≡ p ∷ ps → (number : ℕ)
@@ -514,8 +524,14 @@ module _ (table : List TypeDef) (blocks : Code BlockLine) where
           whole = texts.1;
           at = refl;
           among = among;
+          constants = constants;
         })
       where
+        constants : (pieces : List Piece) → HaveConstant (map block_plain (last_of no_proc blocks.procs).lines) pieces → CodeHas blocks.procs pieces
+        constants =
+            subst (λ qs. (pieces : List Piece) → HaveConstant (map block_plain (last_of no_proc qs).lines) pieces → CodeHas qs pieces) (sym e)
+            (last_constants no_proc p ps)
+
         among : (text : List ℕ) → is_member same_text (lines_texts (map block_plain (last_of no_proc blocks.procs).lines)) text ≡ true
             → is_member same_text (code_texts block_plain blocks.procs) text ≡ true
         among =

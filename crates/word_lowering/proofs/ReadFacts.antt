@@ -32,7 +32,6 @@ use Rattle.word_lowering.proofs.LineFits.{single_is, has_words}
 use Rattle.word_lowering.proofs.Sites.{room, around, type_of, Housing, in_variable, by_address, in_places, in_data, InMemory, Site, AmongSites}
 use Rattle.word_lowering.proofs.Sites.{data_end, globals_of, IsHoused, IsGlobal, IsBody, Linked}
 use Rattle.word_lowering.proofs.Scenes.{address_of, Name, of_value, of_location, of_place, Call, site_of, house, Filled, IsNamed, IsThere, looked}
-use Rattle.word_lowering.proofs.LiteralHandles.{fixed_near, literal_near}
 use Rattle.word_lowering.proofs.Scenes.{FromPlace, FromConstant, FromData, standing_from, FromValue, IsRoot, IsInValue, IsLedBy, IsFilled, IsNumbers, HasValue}
 use Rattle.word_lowering.proofs.SitesApart.{houses, site_at}
 use Rattle.word_lowering.proofs.Keeping.{location_address, declared_address, spot_memory, spot_address, spot_letter, from_memory, waiting_inside, node_look}
@@ -52,7 +51,7 @@ module _ (x : Basis) where
   pub constant_near : (l : Location) (a : ℕ) (t : Shape) → FromConstant x.table x.blocks l a t → a + shape_bytes t < 2 ^ 32
   constant_near l a t f =
       let v : Value = value_of f.pieces in
-      let words = words_are f.pieces f.one in
+      let words = words_are f.pieces f.plain f.one in
       let there = x.constants f.pieces (subst AllSmall (sym words) (small_words v f.shape f.numbers f.shaped)) f.among in
       let room = ap room_of words ∙ words_room v (values_of_numbers v f.shape f.numbers f.shaped) in
       let size = bytes_is v f.shape f.numbers f.shaped in
@@ -65,9 +64,9 @@ module _ (x : Basis) where
       text_near b n (inl c) = omega (arith, c.1)
       text_near b n (inr c) = omega (arith, c.1)
 
-pub data_near : (x : Basis) (l : Location) (a : ℕ) (t : Shape) → FromData x.table x.blocks l a t → a + shape_bytes t < 2 ^ 32
-data_near x l a t (inl f) = constant_near x l a t f
-data_near x l a t (inr f) = literal_near x l a t f
+pub data_near : (x : Basis) (ground : Ground) (l : Location) (a : ℕ) (t : Shape) → FromData x.table x.blocks ground l a t → a + shape_bytes t < 2 ^ 32
+data_near x ground l a t (inl f) = constant_near x l a t f
+data_near x ground l a t (inr f) = f.near
 
 module _ (x : Basis) (sites : List Site) (linked : Linked x.table x.blocks sites) where
   place_near : (from : List Site) (w : World) (location : Location) (a : ℕ) (t : Shape) → ((s : Site) → AmongSites s from → AmongSites s sites)
@@ -103,11 +102,11 @@ module _ (x : Basis) (sites : List Site) (linked : Linked x.table x.blocks sites
   pub here_near : (ground : Ground) (w : World) (location : Location) (a : ℕ) (t : Shape)
       → ReachesHere x.table x.blocks sites ground w location a t → a + shape_bytes t < 2 ^ 32
   here_near ground w location a t (inl (inl f)) = owned_near ground w location a t (inl f)
-  here_near ground w location a t (inl (inr (inl f))) = data_near x location a t f
+  here_near ground w location a t (inl (inr (inl f))) = data_near x ground location a t f
   here_near ground w location a t (inl (inr (inr (inl f)))) = f.near
   here_near ground w location a t (inl (inr (inr (inr f)))) = waiting_near location a t f
   here_near ground w location a t (inr (inl f)) = f.near
-  here_near ground w location a t (inr (inr f)) = fixed_near x location a t f
+  here_near ground w location a t (inr (inr f)) = f.near
 
   pub value_near : (s : Site) (temps : Temps) (temp : ℕ) (path : List ℕ) (a : ℕ) (t : Shape) → AmongSites s sites
       → FromValue x.table s temps temp path a t → a + shape_bytes t < 2 ^ 32

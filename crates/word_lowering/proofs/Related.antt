@@ -20,7 +20,7 @@ use Rattle.flat_code.specs.Fits.{all_fit}
 use Rattle.flat_code.specs.Running.{Waiting, Machine}
 use Rattle.flat_code.specs.Codes.{block_plain}
 use Rattle.flat_code.specs.declared.line.Piece.{Piece}
-use Rattle.flat_code.specs.Pieces.{piece_words}
+use Rattle.flat_code.specs.Pieces.{piece_words, words_bytes}
 use Rattle.word_lowering.specs.declared.homes.TheConstants.{FIRST}
 use Rattle.word_lowering.specs.declared.homes.Housed.{Housed}
 use Rattle.word_lowering.specs.declared.spots.Spot.{Spot}
@@ -234,6 +234,9 @@ module _ (table : List TypeDef) (blocks : Code BlockLine) where
   -- the handle of a text, and where the text is
   pub record HandleThere (first : Memory) (text : List ℕ) : Type 0 where
     pub handle : StandThere first (handle_from table blocks text) (length text ∷ text_from table blocks text ∷ [])
+    pub above : data_at + data_end table blocks ≤ handle_from table blocks text
+    pub handle_reads : bytes_at first (handle_from table blocks text) (length (words_bytes (length text ∷ text_from table blocks text ∷ [])))
+        ≡ Some (words_bytes (length text ∷ text_from table blocks text ∷ []))
     pub behind : data_at + FIXED_BYTES ≤ handle_from table blocks text
     pub low : data_at + data_end table blocks ≤ text_from table blocks text
     pub high : text_from table blocks text + length text ≤ routines

@@ -5,7 +5,7 @@ use Rattle.std.proofs.Common.{false}
 use Rattle.std.specs.Set.{is_member}
 use Rattle.nim_types.specs.Types.{same_text}
 use Rattle.nim_types.specs.declared.types.TypeDef.{TypeDef}
-use Rattle.nim_meaning.specs.Values.{Value, Fixed, number_of, Base, Made, Location, Standing, Waiting, InBlock, InHand, InException, at_base, Slot, Holds}
+use Rattle.nim_meaning.specs.Values.{Value, Fixed, number_of, Base, Made, Location, Standing, Waiting, InBlock, InHand, InException, at_base, part, Slot, Holds}
 use Rattle.nim_meaning.specs.Values.{Stands, Lends}
 use Rattle.nim_meaning.specs.Places.{may_change, root_of}
 use Rattle.nim_meaning.specs.State.{World, slot_at, frame_at, temporary_at}
@@ -16,8 +16,7 @@ use Rattle.flat_code.specs.declared.place.PlaceKind.{PlaceKind}
 use Rattle.word_code.specs.Memory.{Memory}
 use Rattle.word_code.specs.Words.{Vars}
 use Rattle.flat_code.specs.Scene.{Where, Located, Within, Temps}
-use Rattle.flat_code.specs.Shapes.{Shape, block as text_block, has_shape}
-use Rattle.rv32_isa.specs.Regions.{AreBytes}
+use Rattle.flat_code.specs.Shapes.{Shape, has_shape}
 use Rattle.flat_code.specs.Fits.{is_value, is_location, is_declared, is_standing}
 use Rattle.word_lowering.specs.Lowered.{data_at}
 use Rattle.word_lowering.specs.declared.homes.TheConstants.{LEFT}
@@ -31,22 +30,23 @@ use Rattle.word_lowering.specs.declared.spots.Spot.{Spot}
 use Rattle.word_lowering.specs.declared.spots.Spot.TheVariants.{Held, Lies, Letter}
 use Rattle.flat_code.specs.Codes.{block_plain}
 use Rattle.flat_code.specs.Lines.{level_at}
-use Rattle.flat_code.specs.Pieces.{value_of, are_one, standing_bytes}
+use Rattle.flat_code.specs.Pieces.{value_of, are_one, has_links, standing_bytes}
 use Rattle.flat_code.specs.Sizes.{lines_texts, code_texts}
 use Rattle.word_lowering.specs.Aliases.{is_among, standing, texts_of}
 use Rattle.word_lowering.specs.Layouts.{found, holds_address, owns}
 use Rattle.word_lowering.specs.WaitingCode.{waiter_at, waiter_house}
 use Rattle.word_lowering.specs.Spots.{spot_of}
 use Rattle.word_lowering.specs.Operations.{word}
-use Rattle.word_lowering.specs.Texts.{texts_at, constant_place, handle_place, text_place}
+use Rattle.word_lowering.specs.Texts.{texts_at, constant_place, linked_place, handle_place, text_place}
 use Rattle.word_lowering.specs.LineCode.{variable_of}
 use Rattle.word_lowering.proofs.InMemory.{IsAt, IsByteAt}
 use Rattle.word_lowering.proofs.Blocks.{Blocks, AreLater, Stored}
 use Rattle.word_lowering.proofs.BlockPaths.{LeadsInBlock, LeadsInText, text_later}
+use Rattle.word_lowering.proofs.FixedValues.{FixedAt}
 use Rattle.word_lowering.proofs.ShapeFacts.{never, of_numbers, is_letter, letter, shape_bytes}
 use Rattle.word_lowering.proofs.ShapePaths.{PathTo, path_numbers}
 use Rattle.word_lowering.proofs.Temporaries.{AreOnce}
-use Rattle.word_lowering.proofs.Sites.{Body, type_of, data_end, lines_of, Site, AmongSites, Among, looks, There, InMemory}
+use Rattle.word_lowering.proofs.Sites.{Body, type_of, data_end, laid_from, lines_of, Site, AmongSites, Among, looks, There, InMemory}
 
 -- ---- where values are
 
@@ -213,10 +213,10 @@ abbrev pub IsInBlock : Base → Type 0
 IsInBlock (InBlock block) = Unit {0}
 IsInBlock base = ⊥
 
--- the text of a literal, which nobody owns
-abbrev pub IsFixedText : Base → Type 0
-IsFixedText (Made (Fixed text)) = Unit {0}
-IsFixedText base = ⊥
+-- of a constant, which nobody owns
+abbrev pub IsMade : Base → Type 0
+IsMade (Made v) = Unit {0}
+IsMade base = ⊥
 
 -- in a place, in what waits or in a block, and in no value or constant
 abbrev pub IsOwned : Base → Type 0
@@ -225,18 +225,18 @@ IsOwned (Waiting level node) = Unit {0}
 IsOwned (InBlock block) = Unit {0}
 IsOwned base = ⊥
 
--- of that, or the text of a literal, for which a parameter may stand that is lent; where something may change it is owned
+-- of that, or of a constant, for which a parameter may stand that is lent; where something may change it is owned
 abbrev pub IsStood : Base → Type 0
-IsStood base = IsOwned base ⊎ IsFixedText base
+IsStood base = IsOwned base ⊎ IsMade base
 
 pub may_owned : (base : Base) → IsStood base → may_change base ≡ true → IsOwned base
 may_owned base (inl is) may = is
-may_owned (Made v) (inr text) may = never may
-may_owned (Standing level number) (inr text) may = absurd text
-may_owned (Waiting level node) (inr text) may = absurd text
-may_owned (InBlock block) (inr text) may = absurd text
-may_owned (InHand block) (inr text) may = absurd text
-may_owned (InException i) (inr text) may = absurd text
+may_owned (Made v) (inr made) may = never may
+may_owned (Standing level number) (inr made) may = absurd made
+may_owned (Waiting level node) (inr made) may = absurd made
+may_owned (InBlock block) (inr made) may = absurd made
+may_owned (InHand block) (inr made) may = absurd made
+may_owned (InException i) (inr made) may = absurd made
 
 abbrev pub Stood : Where → Type 0
 Stood (Located location) = IsStood location.base
@@ -262,6 +262,60 @@ text_from_later ground later ahead location a t x = record {
   block = x.block;
   base = x.base;
   leads = text_later ground.blocks later.blocks ahead.blocks x.block location.path a t x.leads;
+  near = x.near;
+}
+
+-- of a part of a constant, by its words in the data
+pub record FromLinked (ground : Ground) (location : Location) (a : ℕ) (t : Shape) : Type 0 where
+  pub value : Value
+  pub base : location.base ≡ Made value
+  pub stands : FixedAt (is_fixed ground) a t (part value location.path)
+  pub near : a + shape_bytes t < 2 ^ 32
+
+-- or of a character of a text in one, which is a byte of the data
+pub record FromFixed (ground : Ground) (location : Location) (a : ℕ) (t : Shape) : Type 0 where
+  pub value : Value
+  pub base : location.base ≡ Made value
+  pub above : List ℕ
+  pub position : ℕ
+  pub path : location.path ≡ above ++ position ∷ []
+  pub text : List ℕ
+  pub is : part value above ≡ Fixed text
+  pub place : ℕ
+  pub stands : is_fixed ground place text
+  pub inside : position < length text
+  pub shape : t ≡ letter
+  pub address : a ≡ place + position
+  pub near : a + shape_bytes t < 2 ^ 32
+
+fixed_still : (ground later : Ground) → IsLater ground later → (a : ℕ) (s : Shape) (v : Value) → FixedAt (is_fixed ground) a s v
+    → FixedAt (is_fixed later) a s v
+fixed_still ground later ahead a s v at = subst (λ fixed. FixedAt (λ place text. fixed place text ≡ true) a s v) (sym ahead.fixed) at
+
+pub linked_later : (ground later : Ground) → IsLater ground later → (location : Location) (a : ℕ) (t : Shape) → FromLinked ground location a t
+    → FromLinked later location a t
+linked_later ground later ahead location a t x = record {
+  value = x.value;
+  base = x.base;
+  stands = fixed_still ground later ahead a t (part x.value location.path) x.stands;
+  near = x.near;
+}
+
+pub fixed_later : (ground later : Ground) → IsLater ground later → (location : Location) (a : ℕ) (t : Shape) → FromFixed ground location a t
+    → FromFixed later location a t
+fixed_later ground later ahead location a t x = record {
+  value = x.value;
+  base = x.base;
+  above = x.above;
+  position = x.position;
+  path = x.path;
+  text = x.text;
+  is = x.is;
+  place = x.place;
+  stands = ap (λ (fixed : (place : ℕ) → List ℕ → Bool). fixed x.place x.text) ahead.fixed ∙ x.stands;
+  inside = x.inside;
+  shape = x.shape;
+  address = x.address;
   near = x.near;
 }
 
@@ -362,19 +416,24 @@ module _ (table : List TypeDef) where
   module _ (blocks : Code BlockLine) where
     -- ---- constants that stand in the data
 
+    -- one without texts or sequences, and one with some
     abbrev pub standing_from : List Piece → ℕ
-    standing_from pieces = data_at + (texts_at table (data_end table blocks) + constant_place blocks.procs pieces)
+    standing_from pieces = data_at + (texts_at table (data_end table blocks) + constant_place (laid_from table blocks) blocks.procs pieces)
+
+    abbrev pub linked_from : List Piece → ℕ
+    linked_from pieces = data_at + (texts_at table (data_end table blocks) + linked_place (laid_from table blocks) blocks.procs pieces)
 
     -- the handle of a text, and the text itself
     abbrev pub handle_from : List ℕ → ℕ
-    handle_from text = data_at + (texts_at table (data_end table blocks) + handle_place blocks.procs text)
+    handle_from text = data_at + (texts_at table (data_end table blocks) + handle_place (laid_from table blocks) blocks.procs text)
 
     abbrev pub text_from : List ℕ → ℕ
-    text_from text = data_at + (texts_at table (data_end table blocks) + text_place blocks.procs text)
+    text_from text = data_at + (texts_at table (data_end table blocks) + text_place (laid_from table blocks) blocks.procs text)
 
-    -- an address is that of a location in a constant of the code
+    -- an address is that of a location in a constant of numbers
     pub record FromConstant (location : Location) (a : ℕ) (t : Shape) : Type 0 where
       pub pieces : List Piece
+      pub plain : has_links pieces ≡ false
       pub one : are_one pieces 0 ≡ true
       pub among : is_member same_text (code_texts block_plain blocks.procs) (standing_bytes pieces) ≡ true
       pub base : location.base ≡ Made (value_of pieces)
@@ -385,34 +444,12 @@ module _ (table : List TypeDef) where
       pub path : PathTo shape location.path offset t
       pub address : a ≡ standing_from pieces + offset
 
-    -- or of the text of a literal, by its handle
-    pub record FromLiteral (location : Location) (a : ℕ) (t : Shape) : Type 0 where
-      pub text : List ℕ
-      pub bytes : AreBytes text
-      pub among : is_member same_text (code_texts block_plain blocks.procs) text ≡ true
-      pub base : location.base ≡ Made (Fixed text)
-      pub path : location.path ≡ []
-      pub shape : t ≡ text_block
-      pub address : a ≡ handle_from text
-
-    -- or of a character of that text, which is a byte of it
-    pub record FromFixed (location : Location) (a : ℕ) (t : Shape) : Type 0 where
-      pub text : List ℕ
-      pub bytes : AreBytes text
-      pub among : is_member same_text (code_texts block_plain blocks.procs) text ≡ true
-      pub base : location.base ≡ Made (Fixed text)
-      pub position : ℕ
-      pub path : location.path ≡ position ∷ []
-      pub inside : position < length text
-      pub shape : t ≡ letter
-      pub address : a ≡ text_from text + position
-
-    abbrev pub FromData : Location → (a : ℕ) → Shape → Type 0
-    FromData location a t = FromConstant location a t ⊎ FromLiteral location a t
+    abbrev pub FromData : Ground → Location → (a : ℕ) → Shape → Type 0
+    FromData ground location a t = FromConstant location a t ⊎ FromLinked ground location a t
 
     abbrev pub LeadsHere : (sites : List Site) → Ground → World → Location → ℕ → Shape → Type 0
     LeadsHere sites ground w location a t =
-        FromPlace sites w location a t ⊎ (FromData location a t ⊎ (FromBlock ground location a t ⊎ FromWaiting sites location a t))
+        FromPlace sites w location a t ⊎ (FromData ground location a t ⊎ (FromBlock ground location a t ⊎ FromWaiting sites location a t))
 
     abbrev pub Leads : (sites : List Site) → Ground → World → (s : Site) → Temps → Where → ℕ → Shape → Type 0
     Leads sites ground w s temps (Located location) a t = LeadsHere sites ground w location a t
@@ -420,7 +457,7 @@ module _ (table : List TypeDef) where
 
     -- a character of a text
     abbrev pub FromLetter : Ground → Location → ℕ → Shape → Type 0
-    FromLetter ground location a t = FromText ground location a t ⊎ FromFixed location a t
+    FromLetter ground location a t = FromText ground location a t ⊎ FromFixed ground location a t
 
     -- The same, or a character of a text. Nobody knows which where a character is reached by an address: there it is read and written as a byte.
     abbrev pub ReachesHere : (sites : List Site) → Ground → World → Location → ℕ → Shape → Type 0
@@ -433,22 +470,20 @@ module _ (table : List TypeDef) where
     pub letter_later : (ground later : Ground) → IsLater ground later → (location : Location) (a : ℕ) (t : Shape) → FromLetter ground location a t
         → FromLetter later location a t
     letter_later ground later ahead location a t (inl x) = inl (text_from_later ground later ahead location a t x)
-    letter_later ground later ahead location a t (inr x) = inr x
+    letter_later ground later ahead location a t (inr x) = inr (fixed_later ground later ahead location a t x)
 
     pub reached_so : (sites : List Site) (ground : Ground) (w : World) (s : Site) (temps : Temps) (there : Where) (a : ℕ) (t : Shape)
         → Leads sites ground w s temps there a t → Reaches sites ground w s temps there a t
     reached_so sites ground w s temps (Located location) a t l = inl l
     reached_so sites ground w s temps (Within temp path) a t l = l
 
-    -- what isn't made of numbers is no part of a constant
-    pub is_stood : (sites : List Site) (ground : Ground) (w : World) (location : Location) (a : ℕ) (t : Shape) → of_numbers t ≡ false
+    pub is_stood : (sites : List Site) (ground : Ground) (w : World) (location : Location) (a : ℕ) (t : Shape)
         → LeadsHere sites ground w location a t → IsStood location.base
-    is_stood sites ground w location a t blocks_in (inl f) = inl (subst IsOwned (sym f.base) tt)
-    is_stood sites ground w location a t blocks_in (inr (inl (inl f))) =
-        never (sym blocks_in ∙ path_numbers f.shape location.path f.offset t f.numbers f.path)
-    is_stood sites ground w location a t blocks_in (inr (inl (inr f))) = inr (subst IsFixedText (sym f.base) tt)
-    is_stood sites ground w location a t blocks_in (inr (inr (inl f))) = inl (subst IsOwned (sym f.base) tt)
-    is_stood sites ground w location a t blocks_in (inr (inr (inr f))) = inl (subst IsOwned (sym f.base) tt)
+    is_stood sites ground w location a t (inl f) = inl (subst IsOwned (sym f.base) tt)
+    is_stood sites ground w location a t (inr (inl (inl f))) = inr (subst IsMade (sym f.base) tt)
+    is_stood sites ground w location a t (inr (inl (inr f))) = inr (subst IsMade (sym f.base) tt)
+    is_stood sites ground w location a t (inr (inr (inl f))) = inl (subst IsOwned (sym f.base) tt)
+    is_stood sites ground w location a t (inr (inr (inr f))) = inl (subst IsOwned (sym f.base) tt)
 
     -- what is no character leads to what is stored there by its shape
     pub stored_here : (sites : List Site) (ground : Ground) (w : World) (location : Location) (a : ℕ) (t : Shape) → is_letter t ≡ false
@@ -470,7 +505,7 @@ module _ (table : List TypeDef) where
 
     -- ---- places
 
-    -- a filled place: it has a value of its own, or stands for a location, of something that is owned or of the text of a literal
+    -- a filled place: it has a value of its own, or stands for a location, of something that is owned or of a constant
     pub record StandsFor (sites : List Site) (ground : Ground) (w : World) (c : Call) (n : ℕ) : Type 0 where
       pub location : Location
       pub slot : slot_at w c.site.level n ≡ Some (Stands location)
@@ -487,7 +522,7 @@ module _ (table : List TypeDef) where
 
     -- with the address in a variable
     pub record IsAddressed (sites : List Site) (ground : Ground) (w : World) (c : Call) (temp : ℕ) (there : Where) : Type 0 where
-      -- one that may be written is of something that is owned, or of the text of a literal
+      -- one that may be written is of something that is owned, or of a constant
       pub standing : is_standing (house c.site (of_location temp)).kind ≡ true → Stood there
       pub address : ℕ
       pub holds : c.vars (variable_of (house c.site (of_location temp))) ≡ Some address

@@ -16,13 +16,13 @@ use Rattle.word_lowering.proofs.GoodLeads.{owned_to, value_home, waiting_home}
 use Rattle.word_lowering.proofs.HandleRows.{IsHandled}
 use Rattle.word_lowering.proofs.Keeping.{AmongCalls}
 use Rattle.word_lowering.proofs.Lines.{Basis, IsGood}
-use Rattle.word_lowering.proofs.LiteralHandles.{literal_behind, literal_load}
+use Rattle.word_lowering.proofs.LinkedReads.{linked_behind, linked_full}
 use Rattle.word_lowering.proofs.Located.{Leading, place_lying, value_lying, waiting_lying}
 use Rattle.word_lowering.proofs.Related.{Both, calls_of, sites_of}
 use Rattle.word_lowering.proofs.Scenes.{Call, FromConstant, Leads, is_fixed}
 use Rattle.word_lowering.proofs.ShapeFacts.{never, of_numbers, shape_bytes}
 use Rattle.word_lowering.proofs.ShapePaths.{path_numbers}
-use Rattle.word_lowering.proofs.Sites.{AmongSites}
+use Rattle.word_lowering.proofs.Sites.{AmongSites, data_end}
 use Rattle.word_lowering.proofs.SitesApart.{InRange, site_at}
 use Rattle.word_lowering.proofs.Sources.{Lying, lying_range}
 use Rattle.word_lowering.proofs.TextOperands.{IsText}
@@ -68,7 +68,7 @@ module _ (x : Basis) (g : Both) (y : IsGood x g) where
   led_full c i (Located location) a s h seen (inl l) = leading_full location a s h (owned_to x g y location a s (inl l)) seen
   led_full c i (Located location) a s h seen (inr (inl (inl l))) = no_constant location a s h l
   led_full c i (Located location) a s h seen (inr (inl (inr l))) =
-      and_from (is_seen g.world location) (is_full (load g.world location)) seen (ap is_full (literal_load x location a s l g y))
+      and_from (is_seen g.world location) (is_full (load g.world location)) seen (linked_full x g y location a s l)
   led_full c i (Located location) a s h seen (inr (inr (inl l))) = leading_full location a s h (owned_to x g y location a s (inr (inl l))) seen
   led_full c i (Located location) a s h seen (inr (inr (inr l))) =
       let p = and_parts (is_there g.world location) (is_whole g.world (load g.world location)) seen in
@@ -90,16 +90,17 @@ module _ (x : Basis) (g : Both) (y : IsGood x g) where
           let s = site_at x.table x.blocks (sites_of g) l.site y.linked l.among in
           let least = s.least in omega (arith, r.0, least)
 
-  pub led_behind : (c : Call) → AmongCalls c (calls_of g) → AmongSites c.site (sites_of g) → (there : Where) (a : ℕ) (s : Shape) → IsHandled s
-      → is_there g.world (location_at c.temps there) ≡ true → Leads x.table x.blocks (sites_of g) g.ground g.world c.site c.temps there a s
+  pub led_behind : FIXED_BYTES ≤ data_end x.table x.blocks → (c : Call) → AmongCalls c (calls_of g) → AmongSites c.site (sites_of g)
+      → (there : Where) (a : ℕ) (s : Shape) → IsHandled s → is_there g.world (location_at c.temps there) ≡ true → Leads x.table x.blocks (sites_of g)
+      g.ground g.world c.site c.temps there a s
       → data_at + FIXED_BYTES ≤ a
-  led_behind c i among (Located location) a s h live (inl l) = lying_behind a (shape_bytes s) (place_lying x g y location a s l)
-  led_behind c i among (Located location) a s h live (inr (inl (inl l))) = no_constant location a s h l
-  led_behind c i among (Located location) a s h live (inr (inl (inr l))) = literal_behind x location a s l
-  led_behind c i among (Located location) a s h live (inr (inr (inl l))) =
+  led_behind least c i among (Located location) a s h live (inl l) = lying_behind a (shape_bytes s) (place_lying x g y location a s l)
+  led_behind least c i among (Located location) a s h live (inr (inl (inl l))) = no_constant location a s h l
+  led_behind least c i among (Located location) a s h live (inr (inl (inr l))) = linked_behind x g y location a s l least
+  led_behind least c i among (Located location) a s h live (inr (inr (inl l))) =
       let at : InBlocks (is_fixed g.ground) (HomeOf x g) (homes_apart x g y) g.ground.blocks location a s
       = record { block = l.block; base = l.base; leads = l.leads } in
       let range = block_range (is_fixed g.ground) (HomeOf x g) (homes_apart x g y) g.ground.blocks g.world g.memory (good_homes x g y) location a s at live in
       omega (arith, range.0)
-  led_behind c i among (Located location) a s h live (inr (inr (inr l))) = lying_behind a (shape_bytes s) (waiting_lying x g y location a s l)
-  led_behind c i among (Within temp path) a s h live l = lying_behind a (shape_bytes s) (value_lying x g y c among temp path a s l)
+  led_behind least c i among (Located location) a s h live (inr (inr (inr l))) = lying_behind a (shape_bytes s) (waiting_lying x g y location a s l)
+  led_behind least c i among (Within temp path) a s h live l = lying_behind a (shape_bytes s) (value_lying x g y c among temp path a s l)

@@ -2,6 +2,7 @@
 use Rattle.std.proofs.Common.{◌≡◌, ℕ, List, map, length, Option, Some, None, true, false, refl, sym, ap, subst, ◌∙◌, arith, suc, ◌≤◌}
 use Rattle.std.specs.Prelude.{nat_lt, not, nat_le}
 use Rattle.word_lowering.proofs.Targets.{AmongFrom, home_of_value, own_either, value_alias}
+use Rattle.nim_meaning.specs.Places.{may_change}
 use Rattle.word_lowering.proofs.Lines.{Basis, IsGood, all_sites, known, starts}
 use Rattle.flat_code.specs.declared.block.BlockLine.{BlockLine}
 use Rattle.word_lowering.proofs.Blocks.{Blocks, Stored}
@@ -14,7 +15,7 @@ use Rattle.word_lowering.proofs.GoodHomes.{HomeOf, good_homes, homes_apart}
 use Rattle.word_lowering.specs.declared.homes.Housed.{Housed}
 use Rattle.word_lowering.proofs.SequenceTypes.{IsSequence, SequencesKnown, is_seq}
 use Rattle.word_code.specs.Memory.{Memory}
-use Rattle.word_lowering.proofs.OwnedHandles.{OwnedAt, owned_at}
+use Rattle.word_lowering.proofs.OwnedHandles.{no_constant, OwnedAt, owned_at}
 use Rattle.flat_code.specs.declared.place.PlaceKind.{PlaceKind}
 use Rattle.word_lowering.proofs.SequencesThere.{SequenceThere}
 use Rattle.flat_code.specs.Shapes.{Shape, block, elements, shape_of}
@@ -170,20 +171,19 @@ module _ (x : Basis) (types : SequencesKnown x) (g : Both) (line : BlockLine) (r
   seen_handle a s (Resource vs i) h w = absurd h
   seen_handle a s (Gone v final) h w = absurd h
 
-  no_text : (s : Shape) → elements s ≡ block → ⊥
-  no_text s e = cc
-
   pub sequence_at : (t : ℕ) (there : Where) (e : Ty) → type_in x is_location (body_of g) t ≡ Some (type.sequence e)
       → fit.may_write (known x) (sigs x.table x.blocks) (globals_of x.table x.blocks) (body_of g).proc.places t ≡ true → g.call.temps.places t ≡ Some there
-      → is_seen g.world (location_at g.call.temps there) ≡ true → HasSequence t (location_at g.call.temps there) e
-  sequence_at t there e typed may at seen =
+      → is_seen g.world (location_at g.call.temps there) ≡ true → may_change (location_at g.call.temps there).base ≡ true
+      → HasSequence t (location_at g.call.temps there) e
+  sequence_at t there e typed may at seen changes =
       let l : Location = location_at g.call.temps there in
       let s : Shape = shape_of (facts_in x.table) e in
       let has : HasType x g.call.site (of_location t) (type.sequence e) = has_type x g.call.site (of_location t) (type.sequence e) y.linked.0 typed in
       let look : looked x.table g.call.site (of_location t) ≡ elements s = look_of x g.call.site (of_location t) (type.sequence e) has in
       let p = and_parts (is_there g.world l) (is_whole g.world (load g.world l)) seen in
       let o : OwnedAt x g line rest y t there (elements s)
-      = owned_at x g line rest y t there has.named (y.linked.0.standing t may) at (elements s) (λ l a is f. no_text s f.shape) tt look p.0 p.1 in
+      = owned_at x g line rest y t there has.named (y.linked.0.standing t may) at (elements s) (no_constant x g line rest y there (elements s) changes) tt
+      look p.0 p.1 in
       let same : location_at g.call.temps there ≡ o.location_is = ap (location_at g.call.temps) o.is in
       let owned : FromOwned x.table (all_sites x g line rest y) g.ground g.world l o.address (elements s)
       = subst (λ k. FromOwned x.table (all_sites x g line rest y) g.ground g.world k o.address (elements s)) (sym same) o.owned in

@@ -1,8 +1,10 @@
 -- Lines that read a sequence at a location, whatever leads there: its length, and where or what its elements are.
-use Rattle.std.proofs.Common.{◌≡◌, inl, ℕ, List, [], ◌∷◌, Option, Some, None, Bool, true, false, refl, sym, ap, subst, ◌∙◌, arith, le_refl, mul-le-mul, pos}
+use Rattle.std.proofs.Common.{◌≡◌, ◌⊎◌, inl, inr, ℕ, List, [], ◌∷◌, Option, Some, None, Bool, true, false, refl, sym, ap, subst, ◌∙◌, arith, le_refl}
+use Rattle.std.proofs.Common.{mul-le-mul, pos}
 use Rattle.std.proofs.Common.{unsigned_abs, ◌*◌, ◌+◌, ◌<◌, ◌^◌, ◌≤◌, append-nil, length, min, negsuc, ℤ}
-use Rattle.std.specs.Prelude.{int_le, int_lt, nat_lt}
+use Rattle.std.specs.Prelude.{◌&&◌, int_le, int_lt, nat_lt, not}
 use Rattle.nim_meaning.specs.Acts.{branch, line_of}
+use Rattle.nim_meaning.specs.Here.{gives_hooked}
 use Rattle.nim_meaning.specs.Deeds.{Answers, costs, give, stop, unless_gone, ◌>>=◌, Finishes}
 use Rattle.word_lowering.specs.LineCode.{element_at as element_code_at, measure_code, item_at, variable_of}
 use Rattle.word_lowering.specs.Operands.{Around, location}
@@ -13,16 +15,15 @@ use Rattle.flat_code.specs.declared.block.BlockLine.{BlockLine}
 use Rattle.word_lowering.proofs.Related.{Both, body_of, high}
 use Rattle.word_code.specs.declared.word.WordInstr.TheVariants.{Branch}
 use Rattle.word_lowering.specs.declared.homes.Home.{Home as Place}
-use Rattle.heap_memory.proofs.ForCallers.{is_there as block_is_there}
 use Rattle.flat_code.specs.Scene.{Did, Fails, Within, Passes, Where, location_at, with_value, Located, led, with_place}
 use Rattle.word_lowering.specs.declared.homes.TheConstants.{FIFTH, FIRST}
 use Rattle.nim_meaning.specs.Values.{Handle, Location, Number, item_of, length_of, nothing, number_of, Value}
 use Rattle.word_lowering.proofs.ValueFacts.{HasType, IsPlain, Operand, has_type, look_of, type_in, with_home}
 use Rattle.word_lowering.specs.declared.homes.Housed.{Housed}
 use Rattle.word_lowering.proofs.TextRowRuns.{IsAt}
-use Rattle.word_lowering.proofs.Blocks.{IsHandle, Stored, IsEmptyIf}
+use Rattle.word_lowering.proofs.Blocks.{Stored}
 use Rattle.word_lowering.proofs.SequenceTypes.{IsSequence, SequencesKnown}
-use Rattle.word_lowering.proofs.Scenes.{Leads, house, is_fixed, looked, of_location, of_value, IsThere}
+use Rattle.word_lowering.proofs.Scenes.{FromLinked, Leads, house, is_fixed, looked, of_location, of_value, IsThere}
 use Rattle.nim_program.specs.declared.operation.Measure.TheVariants.{Len}
 use Rattle.nim_program.specs.Traps.{LengthChanged, IndexOutOfBounds, trap_text}
 use Rattle.word_lowering.specs.declared.homes.Home.TheVariants.{Placed, Static, Variable}
@@ -37,13 +38,12 @@ use Rattle.word_lowering.proofs.LineFits.{are_of}
 use Rattle.word_lowering.proofs.Sites.{around, is_one_word}
 use Rattle.word_lowering.specs.OwnedCode.{each_bytes, element_read, has_handle, is_text as is_text_entry, measured_code, owned_element_code, owned_item_code}
 use Rattle.nim_program.specs.Kinds.{element_of, has_length, is_int, is_of, kind_if, TypeKind}
-use Rattle.word_lowering.proofs.SequenceElementLines.{element_settles, still_settles}
-use Rattle.word_lowering.proofs.SequenceOperands.{elements_there, sequence_block}
+use Rattle.word_lowering.proofs.SequenceElementLines.{element_settles, still_counted}
 use Rattle.word_lowering.specs.Stored.{entry_at}
 use Rattle.nim_types.specs.Table.{facts_in, type_at, types_in}
 use Rattle.nim_meaning.specs.Places.{fetched, length_at, to_item, to_one}
 use Rattle.word_lowering.proofs.SequencePlaces.{goes_to, seen_handle, sequence_by}
-use Rattle.word_lowering.proofs.HouseHooks.{homed}
+use Rattle.word_lowering.proofs.HouseHooks.{homed, unhooked_numbers}
 use Rattle.word_lowering.proofs.LocationHouses.{homed_house}
 use Rattle.nim_program.specs.Ints.{fits as is_int_number, inside}
 use Rattle.std.specs.Ordering.{int_eq}
@@ -53,19 +53,18 @@ use Rattle.std.proofs.lemmas.Int.{ints}
 use Rattle.flat_code.specs.Fits.{is_location, is_value}
 use Rattle.nim_meaning.specs.State.{is_seen, is_there, is_whole, load}
 use Rattle.word_lowering.proofs.SeenHandles.{led_full}
-use Rattle.word_lowering.proofs.Located.{led_stored}
-use Rattle.word_lowering.proofs.LengthLines.{length_settles}
-use Rattle.word_code.specs.Memory.{own_data_at}
+use Rattle.word_lowering.proofs.Located.{IsLinked, IsStoredAt, stored_or_linked}
+use Rattle.word_lowering.proofs.LengthLines.{counted_settles}
 use Rattle.flat_code.specs.Running.{scene_of}
-use Rattle.word_lowering.proofs.ShapeFacts.{shape_bytes, never}
-use Rattle.word_lowering.proofs.StoredLater.{shape_some}
+use Rattle.word_lowering.proofs.ShapeFacts.{shape_bytes, never, of_numbers}
+use Rattle.word_lowering.proofs.LentLocations.{located_here}
 use Rattle.word_lowering.proofs.Arithmetic.{signed_fits, fits_signed}
 use Rattle.word_lowering.specs.Operations.{trap_label, least, word}
 use Rattle.arc_base.specs.declared.outside.Stream.TheVariants.{Err}
 use Rattle.word_lowering.specs.declared.homes.Alias.TheVariants as alias
 use Rattle.word_lowering.proofs.OrdinalChecks.{inside_is}
 use Rattle.word_lowering.proofs.ItemRuns.{item_past}
-use Rattle.word_lowering.proofs.SequenceItemLines.{item_settles, sequence_is}
+use Rattle.word_lowering.proofs.SequenceItemLines.{HasElements, handle_elements, item_settles, linked_elements}
 use Rattle.word_lowering.proofs.PartLines.{led_variable, own_location}
 use Rattle.word_lowering.proofs.Targets.{location_alias, own_alias, pointed}
 use Rattle.arc_base.specs.Event.{writes}
@@ -86,27 +85,8 @@ module _ (x : Basis) (types : SequencesKnown x) (g : Both) (line : BlockLine) (r
     pub address : ℕ
     pub at_home : IsAt g.call.site.base g.call.vars home address
     pub near : address + 4 < 2 ^ 32
-    pub long : ℕ
-    pub block : Option ℕ
-    pub is : load g.world l ≡ Handle long block
-    pub whole : is_whole g.world (Handle long block) ≡ true
-    pub stored : Stored (is_fixed g.ground) g.ground.blocks g.memory address (elements (shape_of (facts_in x.table) e)) (Handle long block)
-    pub fits : is_int_number (pos long) ≡ true
-
-  module _ (s : Shape) (a n : ℕ) where
-    -- all of its elements are in the heap
-    length_few : (k : Option ℕ) → IsHandle g.ground.blocks g.memory a (elements s) n k → is_whole g.world (Handle n k) ≡ true → n < 2 ^ 31
-    length_few None h whole = let e = h.empty in omega (arith, e)
-    length_few (Some i) h whole =
-        let b = sequence_block (is_fixed g.ground) g.ground.blocks g.world g.memory y.heap s a n i h whole in
-        let room = (elements_there (is_fixed g.ground) g.ground.blocks g.world g.memory y.heap s n i b).1 in
-        let there = block_is_there own_data_at g.world.heap.classes g.ground.blocks.stands g.memory y.heap.kept i b.is.standing b.is.stands y.memory.sized in
-        let low = there.low in
-        let high = there.high in
-        let most = y.memory.sized.heap_most in
-        let some = shape_some s in
-        let less : n * 1 ≤ n * shape_bytes s = mul-le-mul (le_refl n) (omega (arith, some)) in
-        omega (arith, room, low, high, most, less)
+    pub all : HasElements x g line rest y l (shape_of (facts_in x.table) e) address
+    pub fits : is_int_number (pos all.long) ≡ true
 
   pub reads_at : (t : ℕ) (there : Where) (e : Ty) → type_in x is_location (body_of g) t ≡ Some (type.sequence e) → g.call.temps.places t ≡ Some there
       → is_seen g.world (location_at g.call.temps there) ≡ true → ReadsAt t (location_at g.call.temps there) e
@@ -121,13 +101,10 @@ module _ (x : Basis) (types : SequencesKnown x) (g : Both) (line : BlockLine) (r
       let leads : Leads x.table x.blocks (all_sites x g line rest y) g.ground g.world g.call.site g.call.temps there a.address (elements s)
       = subst (Leads x.table x.blocks (all_sites x g line rest y) g.ground g.world g.call.site g.call.temps there a.address) look a.leads_to in
       let full = led_full x (starts g line rest) y g.call (inl refl) there a.address (elements s) tt seen leads in
-      let r = led_stored x (starts g line rest) y g.call (inl refl) (inl refl) there a.address (elements s) full leads in
-      let near = r.readable.near in
-      let h = seen_handle x types g line rest y a.address s (load g.world l) r.stored p.1 in
-      let whole : is_whole g.world (Handle h.0 h.1) ≡ true = subst (λ v. is_whole g.world v ≡ true) h.2 p.1 in
-      let stored : Stored (is_fixed g.ground) g.ground.blocks g.memory a.address (elements s) (Handle h.0 h.1)
-      = subst (λ v. Stored (is_fixed g.ground) g.ground.blocks g.memory a.address (elements s) v) h.2 r.stored in
-      let few : h.0 < 2 ^ 31 = length_few s a.address h.0 h.1 stored whole in
+      let all = elements_at l a.address s p.1 (stored_or_linked x (starts g line rest) y g.call (inl refl) (inl refl) there a.address (elements s) full
+      leads) in
+      let near = all.0 in
+      let few = all.1.few in
       let housed = homed_house x g line rest y t there has.named (homed x g.call.site y.linked.0 t has.named) at in
       let row : IsSequence x.table (at_house t).ty e
       = types (at_house t).ty e (sequence_by (at_house t).kind (type_at (types_in x.table) (at_house t).ty) e (housed.typed ∙ has.typed)) in
@@ -139,13 +116,31 @@ module _ (x : Basis) (types : SequencesKnown x) (g : Both) (line : BlockLine) (r
         address = a.address;
         at_home = record { points = a.points; high = a.high_is; small = omega (arith, near) };
         near = omega (arith, near);
-        long = h.0;
-        block = h.1;
-        is = h.2;
-        whole = whole;
-        stored = stored;
-        fits = signed_fits (pos h.0) (omega (arith, few, ints));
+        all = all.1;
+        fits = signed_fits (pos all.1.long) (omega (arith, few, ints));
       }
+    where
+      -- in the memory of a place, in a block, or in a constant
+      elements_at : (l : Location) (a : ℕ) (s : Shape) → is_whole g.world (load g.world (location_at g.call.temps there)) ≡ true
+          → IsStoredAt x (starts g line rest) y (load g.world (location_at g.call.temps there)) a (elements s)
+          ⊎ IsLinked x (starts g line rest) y there a (elements s)
+          → (a + 8 < 2 ^ 32) × HasElements x g line rest y (location_at g.call.temps there) s a
+      elements_at l a s whole (inl r) =
+          let h = seen_handle x types g line rest y a s (load g.world (location_at g.call.temps there)) r.stored whole in (
+            r.readable.near,
+            handle_elements x g line rest y (location_at g.call.temps there) s a h.0 h.1 h.2 (subst (λ v. is_whole g.world v ≡ true) h.2 whole)
+                (subst (λ v. Stored (is_fixed g.ground) g.ground.blocks g.memory a (elements s) v) h.2 r.stored),
+          )
+      elements_at l a s whole (inr r) = (
+        r.from.near,
+        linked_elements x g line rest y (location_at g.call.temps there) s a
+            (subst (λ k. FromLinked g.ground k a (elements s)) (sym (ap (location_at g.call.temps) r.is)) r.from),
+      )
+
+  -- by another name of the shape
+  pub elements_as : (l : Location) (a : ℕ) (s t : Shape) (e : HasElements x g line rest y l s a) → s ≡ t
+      → (f : HasElements x g line rest y l t a) × (f.long ≡ e.long)
+  elements_as l a s t e is = subst (λ u. (f : HasElements x g line rest y l u a) × (f.long ≡ e.long)) is (e, refl)
 
 module _ (x : Basis) (types : SequencesKnown x) (g : Both) (rest : List BlockLine) where
   -- what happens where it isn't seen is at a fault
@@ -174,10 +169,9 @@ module _ (x : Basis) (types : SequencesKnown x) (g : Both) (rest : List BlockLin
       (λ b. gives (scene_of (high x.table x.blocks (starts g line rest))) to
       (costs 1 (unless_gone b (give (length_of (load g.world (location_at g.call.temps there)))) >>= (λ n. give (Number (pos n)))))) (λ before. tt)
       (λ seen. let r = reads_at x types g line rest y from there e typed at seen in
-      subst (λ v. Settles x (starts g line rest) rest (Passes (Answers [] 1 (with_value to g.call.temps (Number (pos (length_of v)))) g.world))) (sym r.is)
-      (length_settles x g line rest y (location_at g.call.temps there) (elements (shape_of (facts_in x.table) e)) tt r.long r.block r.is r.address
-      r.stored r.home
-      r.at_home r.fits to Len (int_target x g line rest y to refl refl plain_to kinds.0 (pos r.long) r.fits)
+      subst (λ n. Settles x (starts g line rest) rest (Passes (Answers [] 1 (with_value to g.call.temps (Number (pos n))) g.world))) (sym r.all.long_is)
+      (counted_settles x g line rest y r.all.long r.address r.home r.at_home r.all.long_at r.fits to Len
+      (int_target x g line rest y to refl refl plain_to kinds.0 (pos r.all.long) r.fits)
       (ap (λ b. measure_code (around x.table x.blocks (body_of g)) b Len (variable x g line rest y to)
       (location (around x.table x.blocks (body_of g)) from) (code_next x g line rest y)) r.handled
       ∙ ap (λ h. measured_code Len (variable x g line rest y to) h (code_next x g line rest y)) r.home_is))))
@@ -201,8 +195,8 @@ module _ (x : Basis) (types : SequencesKnown x) (g : Both) (rest : List BlockLin
       (λ z before. tt) (location_at g.call.temps there) y
       (λ seen. let r = reads_at x types g line rest y from there e typed at seen in
       let held : ℕ = variable x g line rest y len in
-      still_settles x g line rest y (location_at g.call.temps there) (elements (shape_of (facts_in x.table) e)) tt r.long r.block r.is r.address r.stored r.home
-      r.at_home r.fits traps held o.high (number_of w) o.fits o.word_is
+      still_counted x g line rest y (location_at g.call.temps there) r.all.long r.all.long_is r.address r.all.long_at r.home r.at_home r.fits traps held o.high
+      (number_of w) o.fits o.word_is
       (ap (λ b. still_at b held (location (around x.table x.blocks (body_of g)) from) (code_next x g line rest y)) r.handled
       ∙ ap (λ h. measured_code Len FIRST h (Branch test.Unequal held FIRST (trap_label LengthChanged) ∷ code_next x g line rest y)) r.home_is)
       (λ lines. subst (λ b. any_branches (trap_label LengthChanged) (still_at b held (location (around x.table x.blocks (body_of g)) from) lines) ≡ true)
@@ -224,7 +218,9 @@ module _ (x : Basis) (types : SequencesKnown x) (g : Both) (rest : List BlockLin
   element_sequence to from index e typed y =
       let line = plain (L.Element to from index) in
       let f = and_parts (is_of (type_in x is_value (body_of g) to) (element_of (kind_if (facts_in x.table) (type_in x is_location (body_of g) from))))
-      (is_int (kind_at x g line rest y index)) (fits_here x.table x.blocks (body_of g) line rest y.stands) in
+      (is_int (kind_at x g line rest y index) && not (gives_hooked (facts_in x.table) (type_in x is_value (body_of g) to)))
+      (fits_here x.table x.blocks (body_of g) line rest y.stands) in
+      let k = and_parts (is_int (kind_at x g line rest y index)) _ f.1 in
       let w_of = are_of (type_in x is_value (body_of g) to) (Some e)
       (subst (λ o. is_of (type_in x is_value (body_of g) to) (element_of (kind_if (facts_in x.table) o)) ≡ true) typed f.0) in
       let goes = goes_to x types g line rest y to e refl refl (w_of.is ∙ sym w_of.is_other) in
@@ -236,7 +232,7 @@ module _ (x : Basis) (types : SequencesKnown x) (g : Both) (rest : List BlockLin
       (gives (scene_of (high x.table x.blocks (starts g line rest))) to (costs 1 (element_at (location_at g.call.temps there) (number_of w)))) Fails)
       (λ w h. branch_settles x (starts g line rest) rest (inside (number_of w) (length_of (load g.world (location_at g.call.temps there))))
       (gives (scene_of (high x.table x.blocks (starts g line rest))) to (costs 1 (element_at (location_at g.call.temps there) (number_of w)))) Fails
-      (λ within_it. let o = int_read x g line rest y index w f.1 h in
+      (λ within_it. let o = int_read x g line rest y index w k.0 h in
       seen_settles line (λ b. gives (scene_of (high x.table x.blocks (starts g line rest))) to (costs 1 (unless_gone b
       (fetched (item_of (load g.world (location_at g.call.temps there)) (location_at g.call.temps there) (unsigned_abs (number_of w)))))))
       (λ z before. tt) (location_at g.call.temps there) y
@@ -246,8 +242,9 @@ module _ (x : Basis) (types : SequencesKnown x) (g : Both) (rest : List BlockLin
       let here : Around = around x.table x.blocks (body_of g) in
       let into : Housed = house g.call.site (of_value to) in
       let next : List WordInstr = code_next x g line rest y in
-      element_settles x g line rest y (location_at g.call.temps there) r.long r.block to goes.there r.is r.whole r.address r.near
-      (subst (λ t. Stored (is_fixed g.ground) g.ground.blocks g.memory r.address (elements t) (Handle r.long r.block)) (sym goes.look) r.stored)
+      let all = elements_as x types g line rest y (location_at g.call.temps there) r.address (shape_of (facts_in x.table) e) s r.all (sym goes.look) in
+      element_settles x g line rest y (location_at g.call.temps there) r.address to goes.there
+      (unhooked_numbers x g.call.site y.linked.0 to goes.there k.1) all.0 r.near
       r.home r.at_home held o.high (subst (λ t. shape_bytes t < 2 ^ 32) (sym goes.look) r.row.small)
       (ap (λ b. element_code_at here b from index into next) r.handled
       ∙ ap (λ k. owned_element_code FIFTH k held (each_bytes x.table (entry_at x.table (location here from).ty))
@@ -255,7 +252,7 @@ module _ (x : Basis) (types : SequencesKnown x) (g : Both) (rest : List BlockLin
       ∙ ap (λ d. owned_element_code FIFTH r.home held (each_bytes x.table (entry_at x.table (location here from).ty))
       (element_read (is_text_entry d) into next)) r.row.entry
       ∙ ap (λ n. owned_element_code FIFTH r.home held n (element_read false into next)) (r.row.bytes ∙ ap shape_bytes (sym goes.look)))
-      (number_of w) o.fits (subst (λ v. inside (number_of w) (length_of v) ≡ true) r.is within_it) o.word_is)) (λ i before. tt)))
+      (number_of w) o.fits (subst (λ n. inside (number_of w) n ≡ true) (r.all.long_is ∙ sym all.1) within_it) o.word_is)) (λ i before. tt)))
 
   -- ---- where an element is
 
@@ -286,14 +283,10 @@ module _ (x : Basis) (types : SequencesKnown x) (g : Both) (rest : List BlockLin
       (costs 1 (unless_gone b (deeds.branch (inside (number_of w) (length_of (load g.world (location_at g.call.temps there))))
       (to_one (load g.world (location_at g.call.temps there)) (location_at g.call.temps there) (unsigned_abs (number_of w)))
       (stop IndexOutOfBounds)))))) (sym seen)
-      (found y there w o there_to q.look (reads_at x types g line rest y from there e typed at seen)))))
+      (found y there at w o there_to q.look (reads_at x types g line rest y from there e typed at seen)))))
     where
       item_line : BlockLine
       item_line = plain (L.Item to from index)
-
-      is_led : (there : Where) (n k i : ℕ) (l : Location) → led there (item_of (Handle n (Some k)) l i) ≡ Located (item_of (Handle n (Some k)) l i)
-      is_led (Located old) n k i l = refl
-      is_led (Within t path) n k i l = refl
 
       item_branches : (lead : ℕ) (home : Place) (held size : ℕ) (k : List WordInstr)
           → any_branches (trap_label IndexOutOfBounds) (owned_item_code lead home held size k) ≡ true
@@ -301,7 +294,7 @@ module _ (x : Basis) (types : SequencesKnown x) (g : Both) (rest : List BlockLin
       item_branches lead (Placed at) held size k = refl
       item_branches lead (Static at) held size k = refl
 
-      found : (y : IsGood x (starts g item_line rest)) (there : Where) (w : Value) (o : Operand x g.call index w)
+      found : (y : IsGood x (starts g item_line rest)) (there : Where) (at : g.call.temps.places from ≡ Some there) (w : Value) (o : Operand x g.call index w)
           (there_to : IsThere g.call.site (of_location to))
           → looked x.table g.call.site (of_location to) ≡ shape_of (facts_in x.table) e
           → ReadsAt x types g item_line rest y from (location_at g.call.temps there) e
@@ -309,10 +302,7 @@ module _ (x : Basis) (types : SequencesKnown x) (g : Both) (rest : List BlockLin
           (costs 1 (deeds.branch (inside (number_of w) (length_of (load g.world (location_at g.call.temps there))))
           (to_one (load g.world (location_at g.call.temps there)) (location_at g.call.temps there) (unsigned_abs (number_of w)))
           (stop IndexOutOfBounds))))
-      found y there w o there_to look r =
-          subst (λ v. Settles x (starts g item_line rest) rest (leads (scene_of (high x.table x.blocks (starts g item_line rest))) to there
-          (costs 1 (deeds.branch (inside (number_of w) (length_of v)) (to_one v (location_at g.call.temps there) (unsigned_abs (number_of w)))
-          (stop IndexOutOfBounds))))) (sym r.is) (by (inside (number_of w) r.long) refl)
+      found y there at w o there_to look r = by (inside (number_of w) (length_of (load g.world l))) refl
         where
           l : Location
           l = location_at g.call.temps there
@@ -338,52 +328,50 @@ module _ (x : Basis) (types : SequencesKnown x) (g : Both) (rest : List BlockLin
               r.home_is
               ∙ ap (λ n. owned_item_code (led_variable x g item_line rest y to) r.home held n next) r.row.bytes
 
+          -- no value of a temporary has such a location
+          located : (m : Location) × (there ≡ Located m)
+          located =
+              let has : HasType x g.call.site (of_location from) (type.sequence e)
+              = has_type x g.call.site (of_location from) (type.sequence e) y.linked.0 typed in
+              located_here x g item_line rest y from has.named (ap of_numbers (look_of x g.call.site (of_location from) (type.sequence e) has)) there at
+
           Leads_on : Bool → Type 0
           Leads_on b = Settles x (starts g item_line rest) rest (leads (scene_of (high x.table x.blocks (starts g item_line rest))) to there
-              (costs 1 (deeds.branch b (give (item_of (Handle r.long r.block) l (unsigned_abs (number_of w)))) (stop IndexOutOfBounds))))
+              (costs 1 (deeds.branch b (to_one (load g.world l) l (unsigned_abs (number_of w))) (stop IndexOutOfBounds))))
 
-          inside_it : (k : ℕ) → r.block ≡ Some k → (z : ℤ) → number_of w ≡ z → inside z r.long ≡ true
-              → Settles x (starts g item_line rest) rest (Passes (Answers [] 1
-              (with_place to g.call.temps (led there (item_of (Handle r.long (Some k)) l (unsigned_abs z)))) g.world))
-          inside_it k e (negsuc i) is h = never h
-          inside_it k e (pos i) is h =
+          Leads_one : Bool → Type 0
+          Leads_one b = Settles x (starts g item_line rest) rest (leads (scene_of (high x.table x.blocks (starts g item_line rest))) to there
+              (costs 1 (unless_gone b (give (item_of (load g.world l) l (unsigned_abs (number_of w)))))))
+
+          inside_it : (z : ℤ) → number_of w ≡ z → inside z r.all.long ≡ true → Leads_one true
+          inside_it (negsuc i) is h = never h
+          inside_it (pos i) is h =
               let fz : is_int_number (pos i) ≡ true = subst (λ z. is_int_number z ≡ true) is o.fits in
-              let less : i < r.long = (let q = (and_parts (int_le (pos 0) (pos i)) (int_lt (pos i) (pos r.long)) h).1 in omega (arith, ints, q)) in
+              let less : i < r.all.long = (let q = (and_parts (int_le (pos 0) (pos i)) (int_lt (pos i) (pos r.all.long)) h).1 in omega (arith, ints, q)) in
               let wi : word (pos i) ≡ i = (let q = fits_signed (pos i) fz in omega (arith, ints)) in
-              subst (λ place. Settles x (starts g item_line rest) rest (Passes (Answers [] 1 (with_place to g.call.temps place) g.world)))
-              (sym (is_led there r.long k i l))
-              (item_settles x g item_line rest y l s r.long k (r.is ∙ ap (Handle r.long) e)
-              (subst (λ q. is_whole g.world (Handle r.long q) ≡ true) e r.whole) r.address r.near
-              (subst (λ q. Stored (is_fixed g.ground) g.ground.blocks g.memory r.address (elements s) (Handle r.long q)) e r.stored) r.home r.at_home to held
-              there_to look o.high i less (o.word_is ∙ ap Some (ap word is ∙ wi)) code)
+              subst (λ z. Settles x (starts g item_line rest) rest (Passes (Answers [] 1
+              (with_place to g.call.temps (led there (item_of (load g.world l) l (unsigned_abs z)))) g.world))) (sym is)
+              (subst (λ place. Settles x (starts g item_line rest) rest (Passes (Answers [] 1 (with_place to g.call.temps place) g.world)))
+              (sym (ap (λ z. led z (item_of (load g.world l) l i)) located.1))
+              (item_settles x g item_line rest y l s r.address r.all r.near r.home r.at_home to held there_to look o.high i less
+              (o.word_is ∙ ap Some (ap word is ∙ wi)) code))
 
-          none_inside : (z : ℤ) → inside z 0 ≡ true → ⊥
-          none_inside (pos n) h = let q = (and_parts (int_le (pos 0) (pos n)) (int_lt (pos n) (pos 0)) h).1 in absurd (omega (arith, ints, q))
-          none_inside (negsuc n) h = never h
-
-          -- what is empty has no element
-          some_block : (q : Option ℕ) → r.block ≡ q → inside (number_of w) r.long ≡ true → Leads_on true
-          some_block (Some k) e h =
-              subst (λ q. Settles x (starts g item_line rest) rest (Passes (Answers [] 1
-              (with_place to g.call.temps (led there (item_of (Handle r.long q) l (unsigned_abs (number_of w))))) g.world))) (sym e)
-              (inside_it k e (number_of w) refl h)
-          some_block None e h =
-              let none : r.long ≡ 0 = subst (λ q. IsEmptyIf q r.long) e
-              (sequence_is x g item_line rest y l s r.long r.block r.is r.address r.near r.stored r.home r.at_home).empty in
-              absurd (none_inside (number_of w) (subst (λ n. inside (number_of w) n ≡ true) none h))
-
-          by : (b : Bool) → inside (number_of w) r.long ≡ b → Leads_on b
-          by true h = some_block r.block refl h
-          by false out =
-              let m : min r.long least ≡ r.long = (let c = fits_signed (pos r.long) r.fits in omega (arith, ints)) in
-              let past : r.long ≤ word (number_of w)
-              = ltb-false (word (number_of w)) r.long (ap (λ n. nat_lt (word (number_of w)) n) (sym m) ∙ inside_is (number_of w) r.long o.fits ∙ out) in
-              let h = sequence_is x g item_line rest y l s r.long r.block r.is r.address r.near r.stored r.home r.at_home in
-              subst (λ d. Settles x (starts g item_line rest) rest d)
+          by : (b : Bool) → inside (number_of w) (length_of (load g.world l)) ≡ b → Leads_on (inside (number_of w) (length_of (load g.world l)))
+          by true h =
+              subst Leads_on (sym h) (subst Leads_one (sym r.all.may)
+              (inside_it (number_of w) refl (subst (λ n. inside (number_of w) n ≡ true) r.all.long_is h)))
+          by false h =
+              let out : inside (number_of w) r.all.long ≡ false = subst (λ n. inside (number_of w) n ≡ false) r.all.long_is h in
+              let m : min r.all.long least ≡ r.all.long = (let c = fits_signed (pos r.all.long) r.fits in omega (arith, ints)) in
+              let past : r.all.long ≤ word (number_of w)
+              = ltb-false (word (number_of w)) r.all.long
+              (ap (λ n. nat_lt (word (number_of w)) n) (sym m) ∙ inside_is (number_of w) r.all.long o.fits ∙ out) in
+              let few = r.all.few in
+              subst Leads_on (sym h) (subst (λ d. Settles x (starts g item_line rest) rest d)
               (ap (λ es. Passes (Finishes es (1 + length (line_of (trap_text IndexOutOfBounds))) 1 g.world))
               (sym (append-nil (writes Err (line_of (trap_text IndexOutOfBounds))))))
-              (item_past x g item_line rest y r.address r.near r.long h.place h.long h.few h.there h.near r.home r.at_home (shape_bytes s) r.row.small to held
-              o.high (word (number_of w)) o.word_is code past traps
+              (item_past x g item_line rest y r.address r.near r.all.long r.all.start r.all.long_at (omega (arith, few)) r.all.start_at r.all.start_near r.home
+              r.at_home (shape_bytes s) r.row.small to held o.high (word (number_of w)) o.word_is code past traps
               (λ lines. subst (λ b. any_branches (trap_label IndexOutOfBounds) (item_at here b to from index lines) ≡ true) (sym r.handled)
               (item_branches (variable_of (location here to)) (location here from).home held (each_bytes x.table (entry_at x.table (location here from).ty))
-              lines)))
+              lines))))

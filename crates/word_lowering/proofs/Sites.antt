@@ -10,6 +10,7 @@ use Rattle.nim_types.specs.Types.{Ty, same_text}
 use Rattle.nim_types.specs.Table.{type_at, types_in, facts_in}
 use Rattle.nim_types.specs.Forms.{hooked, form_of}
 use Rattle.nim_program.specs.declared.program.TheConstants.{ACTIVE_CALLS}
+use Rattle.flat_code.specs.declared.line.Piece.{Piece}
 use Rattle.flat_code.specs.declared.line.Line.{Line}
 use Rattle.flat_code.specs.declared.place.PlaceKind.{PlaceKind}
 use Rattle.flat_code.specs.declared.place.PlaceKind.TheVariants as K
@@ -43,10 +44,12 @@ use Rattle.word_lowering.specs.Aliases as aliases
 use Rattle.word_lowering.specs.Aliases.{texts_of, is_among, addressed, alias_for}
 use Rattle.word_lowering.specs.Layouts.{result_in, is_empty, found, holds_address, owns, word_by}
 use Rattle.word_lowering.specs.MayLower.{is_known, lines_may}
-use Rattle.word_lowering.specs.Texts.{names_at, texts_at, texts_in}
+use Rattle.word_lowering.specs.Linked.{laid_out}
+use Rattle.word_lowering.specs.Texts.{data_at, names_at, texts_at, texts_in}
 use Rattle.word_lowering.specs.LineCode.{Around, labels_in}
 use Rattle.word_lowering.specs.WaitingCode.{waiter_at, waiting_house}
 use Rattle.word_lowering.specs.Lowered.{all_layouts, start_layout, globals_end, word_proc}
+use Rattle.word_lowering.proofs.LinkedItems.{CodeHas, HaveConstant}
 use Rattle.word_lowering.proofs.ShapeFacts.{nth_shape, shape_bytes, is_letter, of_numbers}
 use Rattle.word_lowering.proofs.ShapePaths.{shapes_before}
 use Rattle.word_lowering.proofs.HomesApart.{AllApart}
@@ -141,10 +144,18 @@ module _ (table : List TypeDef) (blocks : Code BlockLine) where
   abbrev pub data_end : ℕ
   data_end = globals_end table blocks.procs
 
+  -- the address from which texts are laid out, and those that are
+  abbrev pub laid_from : ℕ
+  laid_from = data_at + texts_at table data_end
+
+  abbrev pub IsLaidOut : List ℕ → Type 0
+  IsLaidOut text = is_member same_text (laid_out laid_from blocks.procs) text ≡ true
+
   abbrev pub around : Body → Around
   around b = record {
     table = table;
     procs = blocks.procs;
+    from = laid_from;
     layouts = all_layouts table blocks.procs;
     own = b.own;
     globals = (start_layout table blocks.procs).all;
@@ -228,6 +239,7 @@ module _ (table : List TypeDef) (blocks : Code BlockLine) where
     pub at : b.literals ≡ length behind
     pub among : (text : List ℕ) → is_member same_text (lines_texts (lines_of b)) text ≡ true →
         is_member same_text (code_texts block_plain blocks.procs) text ≡ true
+    pub constants : (pieces : List Piece) → HaveConstant (lines_of b) pieces → CodeHas blocks.procs pieces
 
   -- a declared place that a line names
   abbrev pub place_among : Body → ℕ → (global : Bool) → Option FlatPlace

@@ -13,7 +13,7 @@ abbrev pub AllSmall : List ℕ → Type 0
 AllSmall [] = Unit {0}
 AllSmall (w ∷ ws) = (w < 2 ^ 32) × AllSmall ws
 
-small_both : (ws us : List ℕ) → AllSmall ws → AllSmall us → AllSmall (ws ++ us)
+pub small_both : (ws us : List ℕ) → AllSmall ws → AllSmall us → AllSmall (ws ++ us)
 small_both [] us a b = b
 small_both (w ∷ ws) us a b = (a.0, small_both ws us a.1 b)
 

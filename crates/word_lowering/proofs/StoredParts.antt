@@ -1,5 +1,5 @@
 -- Parts of what is stored: where they are, and what it does to put another value there. Of what is vacant each part is vacant, and it stays so.
-use Rattle.std.proofs.Common.{◌≡◌, ℕ, zero, suc, ◌+◌, ◌*◌, ◌%◌, ◌<◌, ◌≤◌, inl, inr, List, [], ◌∷◌, Some, Ok, true, refl, sym, ap, subst, ◌∙◌, arith}
+use Rattle.std.proofs.Common.{◌≡◌, ℕ, zero, suc, ◌+◌, ◌*◌, ◌%◌, ◌<◌, ◌≤◌, inl, inr, List, [], ◌∷◌, ◌++◌, Some, Ok, true, refl, sym, ap, subst, ◌∙◌, arith}
 use Rattle.nim_meaning.specs.Values.{Value, Parts, Vacant, Values, Nil, More, count, nth, with_nth, nth_part}
 use Rattle.nim_meaning.specs.Values.{part, with_part, put_part}
 use Rattle.flat_code.specs.Shapes.{Shape, number, reference, block, elements, row, parts, resource, Shapes, no_shapes, shapes}
@@ -44,6 +44,11 @@ pub path_whole : (s : Shape) (path : List ℕ) (o : ℕ) (t : Shape) → PathTo 
 path_whole s [] o t way = ap (λ n. n % 4) way.0
 path_whole s (i ∷ path) o t way =
     let a = step_whole s i way.1 way.0 way.3 in let b = path_whole way.0 path way.2 t way.4 in let e = way.5 in omega (arith, a, b, e)
+
+-- the part at a longer path
+pub part_last : (v : Value) (path : List ℕ) (i : ℕ) → part v (path ++ i ∷ []) ≡ nth_part (part v path) i
+part_last v [] i = refl
+part_last v (j ∷ path) i = part_last (nth_part v j) path i
 
 module _ (StandsFixed : (place : ℕ) → List ℕ → Type 0) where
   abbrev Here : Blocks → Memory → ℕ → Shape → Value → Type 0

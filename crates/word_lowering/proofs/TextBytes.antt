@@ -10,12 +10,14 @@ use Rattle.flat_code.specs.Codes.{block_plain}
 use Rattle.flat_code.specs.Sizes.{code_texts, distinct_texts}
 use Rattle.word_lowering.specs.declared.handed.TheConstants.{LEFT_HANDLE_AT}
 use Rattle.word_lowering.specs.Lowered.{data_of, globals_end}
+use Rattle.word_lowering.specs.Linked.{laid_out}
 use Rattle.word_lowering.specs.Stored.{base_at}
 use Rattle.word_lowering.specs.Texts.{all_names, data_in, ends_from, fixed_texts, joined_all, texts_at, texts_from, data_at, missing, names_before, padded}
-use Rattle.word_lowering.proofs.DistinctTexts.{IsLaid, is_laid, unique_has}
+use Rattle.word_lowering.proofs.DistinctTexts.{IsLaid, is_laid}
 use Rattle.word_lowering.proofs.FirstNames.{name_among}
-use Rattle.word_lowering.proofs.Lines.{Basis}
+use Rattle.word_lowering.proofs.Lines.{Basis, texts_laid}
 use Rattle.word_lowering.proofs.OperandTexts.{TextsBuilt}
+use Rattle.word_lowering.proofs.Sites.{laid_from, IsLaidOut}
 
 in_front : (xs ys : List ℕ) → AreBytes (xs ++ ys) → AreBytes xs
 in_front [] ys are = tt
@@ -43,37 +45,37 @@ module _ (x : Basis) (are : AreBytes (data_of x.table x.blocks.procs)) where
   abbrev names : List ℕ
   names = joined_all (all_names x.table)
 
-  abbrev laid_out : List ℕ
-  laid_out = texts_from x.table (globals_end x.table x.blocks.procs) x.blocks.procs
+  abbrev texts : List ℕ
+  texts = texts_from x.table (globals_end x.table x.blocks.procs) x.blocks.procs
 
   abbrev globals : List ℕ
   globals = replicate (globals_end x.table x.blocks.procs - LEFT_HANDLE_AT) 0
 
   -- the names, and the texts
-  both : AreBytes (padded names ++ laid_out)
+  both : AreBytes (padded names ++ texts)
   both =
-      past ends (padded names ++ laid_out)
-      (past globals (ends ++ (padded names ++ laid_out))
-      (past fixed_texts (globals ++ (ends ++ (padded names ++ laid_out)))
-      (past (replicate WORD_BYTES 0) (fixed_texts ++ (globals ++ (ends ++ (padded names ++ laid_out))))
+      past ends (padded names ++ texts)
+      (past globals (ends ++ (padded names ++ texts))
+      (past fixed_texts (globals ++ (ends ++ (padded names ++ texts)))
+      (past (replicate WORD_BYTES 0) (fixed_texts ++ (globals ++ (ends ++ (padded names ++ texts))))
       (in_front (data_in x.table (globals_end x.table x.blocks.procs) x.blocks.procs)
       (replicate (missing (length (data_in x.table (globals_end x.table x.blocks.procs) x.blocks.procs))) 0) are))))
 
-  laid_text : (text : List ℕ) → is_member same_text (code_texts block_plain x.blocks.procs) text ≡ true → AreBytes text
+  laid_text : (text : List ℕ) → IsLaidOut x.table x.blocks text → AreBytes text
   laid_text text among =
-      let from : ℕ = data_at + texts_at x.table (globals_end x.table x.blocks.procs) in
-      let l : IsLaid from (distinct_texts block_plain x.blocks.procs) text
-      = is_laid from (distinct_texts block_plain x.blocks.procs) text (unique_has (code_texts block_plain x.blocks.procs) text ∙ among) in
+      let from : ℕ = laid_from x.table x.blocks in
+      let l : IsLaid from (laid_out from x.blocks.procs) text = is_laid from (laid_out from x.blocks.procs) text among in
       let place : List ℕ = word_bytes (from + length l.before + 8) in
       in_front text l.after
       (past place (text ++ l.after)
       (past (word_bytes (length text)) (place ++ (text ++ l.after))
-      (past l.before (word_bytes (length text) ++ (place ++ (text ++ l.after))) (subst AreBytes l.whole (past (padded names) laid_out both)))))
+      (past l.before (word_bytes (length text) ++ (place ++ (text ++ l.after))) (subst AreBytes l.whole (past (padded names) texts both)))))
 
   pub texts_built : TextsBuilt x
   texts_built = record {
-    letters = λ b body text among. laid_text text (body.texts.among text among);
+    letters = λ b body text among. laid_text text (texts_laid x text (body.texts.among text among));
+    laid = laid_text;
     names = λ ty def entry n text at.
         one_of (all_names x.table) (names_before x.table (base_at x.table ty) + n) text (name_among x.table (base_at x.table ty) def n text entry at)
-        (in_front names (replicate (missing (length names)) 0) (in_front (padded names) laid_out both));
+        (in_front names (replicate (missing (length names)) 0) (in_front (padded names) texts both));
   }

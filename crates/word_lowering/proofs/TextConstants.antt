@@ -1,10 +1,8 @@
 -- A temporary gets a literal that somebody owns then: a copy of it.
 use Rattle.std.proofs.Common.{◌≡◌, ℕ, List, [], ◌∷◌, map, Some, true, false, refl, sym, ap, subst, ◌∙◌}
 use Rattle.std.specs.Set.{is_member}
-use Rattle.std.proofs.lemmas.Bool.{and_parts}
 use Rattle.nim_types.specs.Table.{facts_in, type_at}
 use Rattle.nim_types.specs.Types.{Ty, same_text}
-use Rattle.nim_program.specs.Kinds.{is_of}
 use Rattle.nim_meaning.specs.Deeds.{costs, give, ◌>>=◌}
 use Rattle.nim_meaning.specs.Lifted.{fresh_text}
 use Rattle.nim_meaning.specs.Values.{Fixed}
@@ -23,13 +21,14 @@ use Rattle.word_lowering.specs.Aliases.{is_read, text_alias}
 use Rattle.word_lowering.specs.LineCode.{constant_by}
 use Rattle.word_lowering.specs.OwnedCode.{text_copy_code}
 use Rattle.word_lowering.specs.RoutineCode.{copy_code}
+use Rattle.word_lowering.specs.Stored.{is_hooked}
+use Rattle.word_lowering.proofs.ConstantFits.{constant_shape, constant_typed}
 use Rattle.word_lowering.proofs.ConstantWords.{text_among}
-use Rattle.word_lowering.proofs.ControlLines.{plain, value_type}
+use Rattle.word_lowering.proofs.ControlLines.{plain}
 use Rattle.word_lowering.proofs.CopyLines.{copy_settles}
 use Rattle.word_lowering.proofs.HookedMoves.{bits_target}
 use Rattle.word_lowering.proofs.LaidHandles.{text_handle}
-use Rattle.word_lowering.proofs.LineFits.{are_of}
-use Rattle.word_lowering.proofs.Lines.{Basis, IsGood, Settles, fits_here, known, starts}
+use Rattle.word_lowering.proofs.Lines.{Basis, IsGood, Settles, known, starts}
 use Rattle.word_lowering.proofs.OperandTexts.{TextsBuilt}
 use Rattle.word_lowering.proofs.Related.{Both, body_of, high}
 use Rattle.word_lowering.proofs.RowOperands.{HasHandleAt}
@@ -54,18 +53,17 @@ module _ (x : Basis) (said : Writing x) (texts : TextsBuilt x) (g : Both) (rest 
   pub owned_text : is_read how.how ≡ false → (y : IsGood x (starts g naming rest)) → Settles x (starts g naming rest) rest
       (gives (scene_of (high x.table x.blocks (starts g naming rest))) to (costs 1 (fresh_text text) >>= (λ v. give v)))
   owned_text owned y =
-      let f = and_parts (has_shape (Fixed text) (shape_of (facts_in x.table) to_type)) _
-      (fits_here x.table x.blocks (body_of g) naming rest y.stands) in
-      let v = are_of (value_type x g naming rest y to) (Some to_type) (and_parts (is_of (value_type x g naming rest y to) (Some to_type)) _ f.1).0 in
-      let shape : shape_of (facts_in x.table) to_type ≡ block = text_look (shape_of (facts_in x.table) to_type) text f.0 in
+      let f = (constant_shape x g rest to how ty (P.Text text ∷ []) y).shaped in
+      let shape : shape_of (facts_in x.table) to_type ≡ block = text_look (shape_of (facts_in x.table) to_type) text f in
       let t = bits_target x g naming rest y to to_type refl (ap (λ b. text_alias b (texts_behind x g naming rest y) (Some text)) owned)
-      (v.is ∙ sym v.is_other) (ap is_one_word shape) in
+      (constant_typed x g rest to how ty (P.Text text ∷ []) y) (ap is_one_word shape) in
       let among : is_member same_text (lines_texts (lines_of (body_of g))) text ≡ true
       = ap (λ l. is_member same_text (lines_texts (map block_plain l)) text) y.stands.whole ∙ text_among naming text [] refl y.stands.before rest in
       let home = (house g.call.site (of_value to)).home in
       let h = text_handle x said texts g naming rest y text among (copy_code home (Static LEFT_HANDLE_AT) (code_next x g naming rest y)) in
       let code : text_copy_code (around x.table x.blocks (body_of g)) home text (code_next x g naming rest y) ≡ code_here x g naming rest y
-      = sym (ap (λ b. constant_by (around x.table x.blocks (body_of g)) b (Some text) (house g.call.site (of_value to)) (P.Text text ∷ [])
+      = sym (ap (λ b. constant_by (around x.table x.blocks (body_of g)) b (is_hooked x.table ty) (Some text) ty (house g.call.site (of_value to)) (P.Text
+      text ∷ [])
       (code_next x g naming rest y)) owned) in
       copy_settles x said g naming rest y to t.there t.inside (t.look ∙ shape) (Static LEFT_HANDLE_AT) text
       (subst (λ l. HasHandleAt x said g naming rest y LEFT_HANDLE_AT l (copy_code home (Static LEFT_HANDLE_AT) (code_next x g naming rest y))

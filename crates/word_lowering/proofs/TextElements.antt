@@ -1,7 +1,8 @@
 -- A temporary gets a character of a text at a location, which is there: the line is followed.
-use Rattle.std.proofs.Common.{◌≡◌, inl, ℕ, List, [], ◌∷◌, ◌++◌, length, Some, None, Ok, true, refl, sym, ap, subst, ◌∙◌, arith}
+use Rattle.std.proofs.Common.{◌≡◌, inl, inr, ℕ, List, [], ◌∷◌, ◌++◌, length, Some, None, Ok, true, refl, sym, ap, subst, ◌∙◌, arith}
 use Rattle.std.proofs.Common.{negsuc, pos, unsigned_abs, ℤ, ◌*◌, ◌+◌, ◌<◌, ◌^◌, Option, false}
-use Rattle.std.specs.Prelude.{int_le, int_lt}
+use Rattle.std.specs.Prelude.{◌&&◌, int_le, int_lt, not}
+use Rattle.nim_meaning.specs.Here.{gives_hooked}
 use Rattle.word_lowering.proofs.OrdinalRuns.{AllSame, but_one, put_here}
 use Rattle.nim_meaning.specs.Acts.{branch}
 use Rattle.nim_meaning.specs.Deeds.{Answers, costs, give, unless_gone}
@@ -56,6 +57,7 @@ use Rattle.word_lowering.proofs.ControlLines.{int_read, kind_at, plain}
 use Rattle.std.proofs.lemmas.Int.{ints}
 use Rattle.flat_code.specs.Fits.{is_location, is_value}
 use Rattle.word_lowering.proofs.LetterReads.{letter_shaped, letter_word}
+use Rattle.word_lowering.proofs.StoredParts.{part_last}
 use Rattle.word_lowering.proofs.TextLetters.{ByteAt, Letter, byte_at, letter_at}
 use Rattle.word_lowering.proofs.TextsRead.{may_write}
 use Rattle.word_lowering.specs.Operations.{word}
@@ -73,11 +75,6 @@ use Rattle.nim_types.specs.Types.{Fact, Facts, Ty, members, fields, base, below,
 use Rattle.flat_code.specs.declared.line.Line.TheVariants as L
 use Rattle.nim_types.specs.Types as type
 use Rattle.nim_types.specs.declared.types.TypeDef.TheVariants as D
-
--- a part at the end of a path is one of what stands there
-part_last : (v : Value) (path : List ℕ) (i : ℕ) → part v (path ++ i ∷ []) ≡ nth_part (part v path) i
-part_last v [] i = refl
-part_last v (j ∷ path) i = part_last (nth_part v j) path i
 
 module _ (x : Basis) (said : Writing x) (g : Both) (rest : List BlockLine) (to from index : ℕ) where
   abbrev line : BlockLine
@@ -118,7 +115,7 @@ module _ (x : Basis) (said : Writing x) (g : Both) (rest : List BlockLine) (to f
         let leads : Leads x.table x.blocks (all_sites x g line rest y) g.ground g.world g.call.site g.call.temps there a.address block
         = subst (Leads x.table x.blocks (all_sites x g line rest y) g.ground g.world g.call.site g.call.temps there a.address) look a.leads_to in
         let full = led_full x (starts g line rest) y g.call (inl refl) there a.address block tt seen leads in
-        let r = led_stored x (starts g line rest) y g.call (inl refl) (inl refl) there a.address block full leads in
+        let r = led_stored x (starts g line rest) y g.call (inl refl) (inl refl) there a.address block (inr refl) full leads in
         let near = r.readable.near in
         let text : IsText (is_fixed g.ground) v = text_handle (is_fixed g.ground) g.ground.blocks g.world g.memory a.address v r.stored p.1 in
         let housed = homed_house x g line rest y from there has.named homed_from at_from in
@@ -273,7 +270,9 @@ module _ (x : Basis) (said : Writing x) (g : Both) (rest : List BlockLine) (to f
   pub element_text : type_in x is_location (body_of g) from ≡ Some type.text → BitsHere x g rest line
   element_text typed y =
       let f = and_parts (is_of (type_in x is_value (body_of g) to) (element_of (kind_if (facts_in x.table) (type_in x is_location (body_of g) from))))
-      (is_int (kind_at x g line rest y index)) (fits_here x.table x.blocks (body_of g) line rest y.stands) in
+      (is_int (kind_at x g line rest y index) && not (gives_hooked (facts_in x.table) (type_in x is_value (body_of g) to)))
+      (fits_here x.table x.blocks (body_of g) line rest y.stands) in
+      let k = and_parts (is_int (kind_at x g line rest y index)) (not (gives_hooked (facts_in x.table) (type_in x is_value (body_of g) to))) f.1 in
       let w_of = are_of (type_in x is_value (body_of g) to) (Some type.char)
       (subst (λ u. is_of (type_in x is_value (body_of g) to) (element_of (kind_if (facts_in x.table) u)) ≡ true) typed f.0) in
       using_settles x (starts g line rest) rest (g.call.temps.places from)
@@ -287,7 +286,7 @@ module _ (x : Basis) (said : Writing x) (g : Both) (rest : List BlockLine) (to f
       (λ within_it. where_there x (starts g line rest) rest (is_seen g.world (location_at g.call.temps there))
       (λ b. gives (scene_of (high x.table x.blocks (starts g line rest))) to (costs 1 (unless_gone b
       (fetched (item_of (load g.world (location_at g.call.temps there)) (location_at g.call.temps there) (unsigned_abs (number_of w))))))) (λ before. tt)
-      (λ seen. found y there typed e seen (w_of.is ∙ sym w_of.is_other) w (int_read x g line rest y index w f.1 h) within_it)) (λ i before. tt)))
+      (λ seen. found y there typed e seen (w_of.is ∙ sym w_of.is_other) w (int_read x g line rest y index w k.0 h) within_it)) (λ i before. tt)))
 
 -- ---- what has elements and a handle, and is no sequence, is a text
 
@@ -320,7 +319,7 @@ module _ (x : Basis) (said : Writing x) (g : Both) (rest : List BlockLine) (to f
   element_other other handled y =
       let line : BlockLine = plain (L.Element to from index) in
       let from_kind : TypeKind = kind_if (facts_in x.table) (type_in x is_location (body_of g) from) in
-      let f = and_parts (is_of (type_in x is_value (body_of g) to) (element_of from_kind)) (is_int (kind_at x g line rest y index))
+      let f = and_parts (is_of (type_in x is_value (body_of g) to) (element_of from_kind)) _
       (fits_here x.table x.blocks (body_of g) line rest y.stands) in
       let v = are_of (type_in x is_value (body_of g) to) (element_of from_kind) f.0 in
       let s = some_kind (facts_in x.table) (type_in x is_location (body_of g) from) (λ k. is_of (Some v.ty) (element_of k)) refl

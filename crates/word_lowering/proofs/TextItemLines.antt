@@ -42,21 +42,21 @@ use Rattle.word_lowering.specs.Operations.{least, trap_label, word}
 use Rattle.word_lowering.specs.OwnedCode.{each_bytes, owned_item_code}
 use Rattle.word_lowering.specs.Stored.{entry_at}
 use Rattle.word_lowering.proofs.Arithmetic.{fits_signed}
-use Rattle.word_lowering.proofs.Blocks.{Stored}
+use Rattle.word_lowering.proofs.Blocks.{IsLiteralHandle, Stored}
 use Rattle.word_lowering.proofs.ControlLines.{int_read, kind_at, plain}
 use Rattle.word_lowering.proofs.HookedMoves.{BitsHere}
-use Rattle.word_lowering.proofs.GoodLeads.{owned_or_text}
+use Rattle.word_lowering.proofs.FixedTexts.{IsFixedText, fixed_text}
+use Rattle.word_lowering.proofs.GoodLeads.{data_linked, owned_or_data}
 use Rattle.word_lowering.proofs.ItemRuns.{item_given, item_past}
 use Rattle.word_lowering.proofs.LentLocations.{located_here}
 use Rattle.word_lowering.proofs.LineFits.{are_of, no_handle, some_kind}
-use Rattle.word_lowering.proofs.LiteralHandles.{literal_handle, literal_led, literal_load, text_near}
+use Rattle.word_lowering.proofs.LinkedReads.{linked_load, linked_text}
 use Rattle.word_lowering.proofs.Lines.{Basis, IsGood, Settles, all_sites, fits_here, starts, using_settles, where_there}
 use Rattle.word_lowering.proofs.NumberLines.{variable}
 use Rattle.word_lowering.proofs.OrdinalChecks.{inside_is}
 use Rattle.word_lowering.proofs.PartLines.{leads_settles, led_variable, own_location}
 use Rattle.word_lowering.proofs.Related.{Both, body_of, high}
-use Rattle.word_lowering.proofs.Scenes.{FromFixed, FromLiteral, FromText, IsFixedText, IsOwned, IsThere, house, is_fixed, is_stood, looked}
-use Rattle.word_lowering.proofs.Scenes.{of_location, text_from}
+use Rattle.word_lowering.proofs.Scenes.{FromData, FromFixed, FromLinked, FromText, IsMade, IsOwned, IsThere, house, is_fixed, looked, of_location}
 use Rattle.word_lowering.proofs.Settling.{TrapsStop, code_here, code_next}
 use Rattle.word_lowering.proofs.ShapeFacts.{letter, never, of_numbers}
 use Rattle.word_lowering.proofs.Sites.{around}
@@ -127,11 +127,13 @@ module _ (x : Basis) (said : Writing x) (g : Both) (rest : List BlockLine) (trap
         let has : HasType x g.call.site (of_location from) type.text = has_type x g.call.site (of_location from) type.text y.linked.0 typed in
         located_here x g line rest y from has.named (ap of_numbers (look_of x g.call.site (of_location from) type.text has)) there at
 
-    -- what is led to is owned, or the text of a literal
-    owned_or_literal : IsOwned l.base ⊎ FromLiteral x.table x.blocks l r.address block
-    owned_or_literal =
-        owned_or_text x (starts g line rest) y l r.address block
-        (is_stood x.table x.blocks (all_sites x g line rest y) g.ground g.world l r.address block refl r.leads) r.leads
+    -- what is led to is owned, or a text in a constant
+    owned_or_linked : IsOwned l.base ⊎ FromLinked g.ground l r.address block
+    owned_or_linked = by (owned_or_data x (starts g line rest) y l r.address block r.leads)
+      where
+        by : IsOwned l.base ⊎ FromData x.table x.blocks g.ground l r.address block → IsOwned l.base ⊎ FromLinked g.ground l r.address block
+        by (inl owned) = inl owned
+        by (inr f) = inr (data_linked x (starts g line rest) y l r.address block refl f)
 
     -- a character that is there
     module _ (n k : ℕ) (stored : Stored (is_fixed g.ground) g.ground.blocks g.memory r.address block (Handle n (Some k)))
@@ -181,43 +183,46 @@ module _ (x : Basis) (said : Writing x) (g : Both) (rest : List BlockLine) (trap
           (item_given x g line rest y r.address r.near n start stored.long stored.few place_at (omega (arith, end)) r.home r.at_home 1 (omega arith) to held
           o.high i is code there_to less (omega (arith, end)))
 
-    -- one of a literal
-    module _ (text : List ℕ) (f : FromLiteral x.table x.blocks l r.address block) (same : f.text ≡ text) (i : ℕ) (less : i < length text) where
-      abbrev literal_start : ℕ
-      literal_start = text_from x.table x.blocks f.text
+    -- one of a text in a constant
+    module _ (text : List ℕ) (f : FromLinked g.ground l r.address block) (same : load g.world l ≡ Fixed text) (i : ℕ) (less : i < length text) where
+      has : (t : List ℕ) × (load g.world l ≡ Fixed t) × IsLiteralHandle (is_fixed g.ground) g.memory r.address t
+      has = linked_text x (starts g line rest) y l r.address f
 
-      literal_end : literal_start + i * 1 + 4 < 2 ^ 32
-      literal_end =
-          let near = text_near x f.text f.bytes f.among in
-          let long = ap length same in
-          omega (arith, near, long, less)
+      handle : IsLiteralHandle (is_fixed g.ground) g.memory r.address text
+      handle = subst (IsLiteralHandle (is_fixed g.ground) g.memory r.address) (fixed_is has.0 text (sym has.1 ∙ same)) has.2
 
-      literal_from : FromFixed x.table x.blocks (item_of (Fixed text) l i) (literal_start + i * 1) letter
-      literal_from = record {
-        text = f.text;
-        bytes = f.bytes;
-        among = f.among;
+      standing : IsFixedText x handle.place text
+      standing = fixed_text x (starts g line rest) y handle.place text handle.stands
+
+      character_near : handle.place + i * 1 + 4 < 2 ^ 32
+      character_near = let high = standing.room in omega (arith, high, less)
+
+      constant_from : FromFixed g.ground (item_of (Fixed text) l i) (handle.place + i * 1) letter
+      constant_from = record {
+        value = f.value;
         base = f.base;
+        above = l.path;
         position = i;
-        path = ap (λ path. path ++ (i ∷ [])) f.path;
-        inside = let long = ap length same in omega (arith, long, less);
+        path = refl;
+        text = text;
+        is = sym (linked_load x (starts g line rest) y l r.address block f) ∙ same;
+        place = handle.place;
+        stands = handle.stands;
+        inside = less;
         shape = refl;
         address = omega arith;
+        near = character_near;
       }
 
-      literal_settles : g.call.vars held ≡ Some i → Settles x (starts g line rest) rest
+      constant_settles : g.call.vars held ≡ Some i → Settles x (starts g line rest) rest
           (Passes (Answers [] 1 (with_place to g.call.temps (Located (item_of (Fixed text) l i))) g.world))
-      literal_settles is =
-          let end = literal_end in
-          let h = literal_handle x l r.address block f (starts g line rest) y in
-          let long_at : number_at g.memory r.address Word ≡ Ok (length text) = h.long ∙ ap (λ t. Ok (length t)) same in
-          let few : length text < 2 ^ 32 = (let few = h.few in let long = ap length same in omega (arith, few, long)) in
-          let place_at = literal_led x l r.address block f (starts g line rest) y in
-          leads_settles x g line rest y to (Located (item_of (Fixed text) l i)) (literal_start + i * 1) 1 (omega arith) there_to
-          (λ e. inr (subst IsFixedText (sym f.base) tt))
-          (inr (inr (subst (FromFixed x.table x.blocks (item_of (Fixed text) l i) (literal_start + i * 1)) (sym look) literal_from)))
-          (item_given x g line rest y r.address r.near (length text) literal_start long_at few place_at (omega (arith, end)) r.home r.at_home 1 (omega arith) to
-          held o.high i is code there_to less (omega (arith, end)))
+      constant_settles is =
+          let end = character_near in
+          leads_settles x g line rest y to (Located (item_of (Fixed text) l i)) (handle.place + i * 1) 1 (omega arith) there_to
+          (λ e. inr (subst IsMade (sym f.base) tt))
+          (inr (inr (subst (FromFixed g.ground (item_of (Fixed text) l i) (handle.place + i * 1)) (sym look) constant_from)))
+          (item_given x g line rest y r.address r.near (length text) handle.place handle.long handle.few handle.there (omega (arith, end)) r.home r.at_home 1
+          (omega arith) to held o.high i is code there_to less (omega (arith, end)))
 
     -- ---- what the line does with the text
 
@@ -241,8 +246,8 @@ module _ (x : Basis) (said : Writing x) (g : Both) (rest : List BlockLine) (trap
         (λ lines. subst (λ b. any_branches (trap_label IndexOutOfBounds) (item_at here b to from index lines) ≡ true) (sym r.handled)
         (item_branches (variable_of (location here to)) (location here from).home held (each_bytes x.table (entry_at x.table (location here from).ty)) lines)))
 
-    -- within the text of a literal: by the literal, or at a fault
-    fixed_found : (t : List ℕ) → load g.world l ≡ Fixed t → IsOwned l.base ⊎ FromLiteral x.table x.blocks l r.address block
+    -- within a text that nobody owns: in a constant, or at a fault
+    fixed_found : (t : List ℕ) → load g.world l ≡ Fixed t → IsOwned l.base ⊎ FromLinked g.ground l r.address block
         → inside (number_of w) (length t) ≡ true → Leads_by true (Fixed t)
     fixed_found t loaded (inl owned) h =
         subst (λ b. Settles x (starts g line rest) rest (leads (scene_of (high x.table x.blocks (starts g line rest))) to there
@@ -252,9 +257,6 @@ module _ (x : Basis) (said : Writing x) (g : Both) (rest : List BlockLine) (trap
         (costs 1 (unless_gone b (give (item_of (Fixed t) l (unsigned_abs (number_of w)))))))) (sym (ap (has_items (Fixed t)) f.base))
         (by (number_of w) refl h)
       where
-        same : f.text ≡ t
-        same = fixed_is f.text t (sym (literal_load x l r.address block f (starts g line rest) y) ∙ loaded)
-
         by : (z : ℤ) → number_of w ≡ z → inside z (length t) ≡ true → Settles x (starts g line rest) rest
             (Passes (Answers [] 1 (with_place to g.call.temps (led there (item_of (Fixed t) l (unsigned_abs (number_of w))))) g.world))
         by (negsuc i) is h = never h
@@ -266,7 +268,7 @@ module _ (x : Basis) (said : Writing x) (g : Both) (rest : List BlockLine) (trap
             (Passes (Answers [] 1 (with_place to g.call.temps (led there (item_of (Fixed t) l (unsigned_abs z)))) g.world))) (sym is)
             (subst (λ place. Settles x (starts g line rest) rest (Passes (Answers [] 1 (with_place to g.call.temps place) g.world)))
             (ap (λ z. led z (item_of (Fixed t) l i)) (sym located.1))
-            (literal_settles t f same i less (o.word_is ∙ ap Some (ap word is ∙ wi))))
+            (constant_settles t f loaded i less (o.word_is ∙ ap Some (ap word is ∙ wi))))
 
     -- within it
     found : (v : Value) → load g.world l ≡ v → IsText (is_fixed g.ground) v → Stored (is_fixed g.ground) g.ground.blocks g.memory r.address block v
@@ -286,7 +288,7 @@ module _ (x : Basis) (said : Writing x) (g : Both) (rest : List BlockLine) (trap
             (sym (is_led there n k i l)) (character_settles n k stored whole i less (o.word_is ∙ ap Some (ap word is ∙ wi))))
     found (Handle n None) loaded text stored whole h =
         let none : n ≡ 0 = stored.empty in absurd (none_inside (number_of w) (subst (λ m. inside (number_of w) m ≡ true) none h))
-    found (Fixed t) loaded text stored whole h = fixed_found t loaded owned_or_literal h
+    found (Fixed t) loaded text stored whole h = fixed_found t loaded owned_or_linked h
     found (Number z) loaded text stored whole h = absurd text
     found (Parts vs) loaded text stored whole h = absurd text
     found (Ref object) loaded text stored whole h = absurd text

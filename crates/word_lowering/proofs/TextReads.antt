@@ -1,5 +1,5 @@
 -- How long a text is that a location leads to: what lines that ask for it do.
-use Rattle.std.proofs.Common.{◌≡◌, ◌+◌, inl, ℕ, ◌<◌, ◌^◌, List, [], ◌∷◌, Ok, Option, Some, None, Bool, true, false, length, pos, ℤ, refl, sym, ap, subst}
+use Rattle.std.proofs.Common.{◌≡◌, ◌+◌, inl, inr, ℕ, ◌<◌, ◌^◌, List, [], ◌∷◌, Ok, Option, Some, None, Bool, true, false, length, pos, ℤ, refl, sym, ap, subst}
 use Rattle.std.proofs.Common.{◌∙◌, arith}
 use Rattle.std.proofs.lemmas.Bool.{and_parts}
 use Rattle.std.proofs.lemmas.Int.{ints}
@@ -132,7 +132,7 @@ module _ (x : Basis) (said : Writing x) (g : Both) (line : BlockLine) (rest : Li
       = subst (Leads x.table x.blocks (all_sites x g line rest y) g.ground g.world g.call.site g.call.temps there a.address) look a.leads_to in
       let m = located_here x g line rest y t has.named (ap of_numbers look) there at in
       let full = led_full x (starts g line rest) y g.call (inl refl) there a.address block tt seen leads in
-      let r = led_stored x (starts g line rest) y g.call (inl refl) (inl refl) there a.address block full leads in
+      let r = led_stored x (starts g line rest) y g.call (inl refl) (inl refl) there a.address block (inr refl) full leads in
       let near = r.readable.near in
       let text : IsText (is_fixed g.ground) v = text_handle (is_fixed g.ground) g.ground.blocks g.world g.memory a.address v r.stored p.1 in
       let is_text_at = text_at_handle (is_fixed g.ground) g.ground.blocks g.world g.memory y.heap y.memory.sized y.memory.bytes

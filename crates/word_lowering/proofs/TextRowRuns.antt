@@ -85,13 +85,13 @@ module _ (StandsFixed : (place : ℕ) → List ℕ → Type 0) (Homes : Home →
         (h : IsHandle d m to block n k) (b : block_of_text StandsFixed law d w m x.heap x.sized n k)
         (mine : Mine StandsFixed Homes apart law d w m x are l to n k is leads h b) (can : MayHave m to) (home : Place) (at_home : IsAt c.base v home to)
       where
-        abbrev room : (bytes : ℕ) → Bool
+        abbrev pub room : (bytes : ℕ) → Bool
         room bytes = room_in w k bytes
 
-        abbrev has : (bytes : ℕ) → Bool
+        abbrev pub has : (bytes : ℕ) → Bool
         has bytes = has_place w k bytes
 
-        room_is : (bytes : ℕ) → may_grow (growing StandsFixed law d w m x.heap x.sized are to n k h b bytes) ≡ room bytes
+        pub room_is : (bytes : ℕ) → may_grow (growing StandsFixed law d w m x.heap x.sized are to n k h b bytes) ≡ room bytes
         room_is bytes = by k b
           where
             by : (q : Option ℕ) (t : block_of_text StandsFixed law d w m x.heap x.sized n q)
@@ -117,6 +117,16 @@ module _ (StandsFixed : (place : ℕ) → List ℕ → Type 0) (Homes : Home →
             → Came (least_of (has bytes) bytes) (room bytes) w.input (perform (resized bytes bytes contents l) w)
         resized_so bytes contents = resized_came w bytes bytes contents (λ e. e) l k (ap block_of is)
 
+        pub appended_came : (more : List ℕ)
+            → Came (length more + least_of (has (n + length more)) (n + length more)) (room (n + length more)) w.input (perform (appended more l) w)
+        appended_came more =
+            let long : ℕ = n + length more in
+            came_works (least_of (has long) long) (length more) (room long) w.input
+            (perform (resized (length_of (load w l) + length more) (length_of (load w l) + length more) (Characters (text_of w (load w l) ++ more)) l) w)
+            (subst (λ i. Came (least_of (has long) long) (room long) w.input (perform (resized i i (Characters (text_of w (load w l) ++ more)) l) w))
+            (ap (λ i. i + length more) (sym (ap length_of is)))
+            (resized_so long (Characters (text_of w (load w l) ++ more))))
+
         -- more characters
         module _ (from : ℕ) (more : List ℕ) (t : TextAt w.heap d.stands m from more) (few : n + length more < 2 ^ 32) (from_home : Place)
             (at_from : IsAt c.base v from_home from)
@@ -132,11 +142,7 @@ module _ (StandsFixed : (place : ℕ) → List ℕ → Type 0) (Homes : Home →
 
             append_came : Came (length more + least_of (has long) long) (room long) w.input (perform (appended more l) w)
             append_came =
-                came_works (least_of (has long) long) (length more) (room long) w.input
-                (perform (resized (length_of (load w l) + length more) (length_of (load w l) + length more) (Characters (text_of w (load w l) ++ more)) l) w)
-                (subst (λ i. Came (least_of (has long) long) (room long) w.input (perform (resized i i (Characters (text_of w (load w l) ++ more)) l) w))
-                (long_is ∙ ap (λ i. i + length more) (sym (ap length_of is)))
-                (resized_so long (Characters (text_of w (load w l) ++ more))))
+                subst (λ i. Came (length more + least_of (has i) i) (room i) w.input (perform (appended more l) w)) (sym long_is) (appended_came more)
 
             pub append_runs : RowDoes live procs c lines FIRST TEXT_SPARE
                 (λ a after other vars. IsLeft StandsFixed Homes apart d m after other to 8 × SameVars vars)
@@ -158,7 +164,7 @@ module _ (StandsFixed : (place : ℕ) → List ℕ → Type 0) (Homes : Home →
                 (perform (appended more l) w)
                 (subst (λ i. Came (length more + least_of (has long) long) (room long) i (perform (appended more l) w)) (sym input) append_came)
                 (λ es i a after e there other word vars same left gave. (
-                  append_row StandsFixed Homes apart law d w m x are l to n k is leads h b from more t other after small
+                  append_row StandsFixed Homes apart law d w m x are l to n k is leads h b more other after from t small
                       (subst (λ p. PutLeaves p own_data_at (appended_text q) m other) (room_is long ∙ there) left) (ap answered e) mine,
                   same_more v vars (put vars FIRST word) same (same_first vars word),
                 ))

@@ -64,19 +64,25 @@ module _ (StandsFixed : (place : ℕ) → List ℕ → Type 0) (Homes : Home →
 
     -- ---- more characters
 
-    module _ (from : ℕ) (more : List ℕ) (t : TextAt w.heap d.stands m from more) (other : Memory) (after : World) where
-      pub append_row : n + length (source_bytes t.source) < 2 ^ 32
-          → AreContentsPut own_data_at (appended_text (append_use StandsFixed law d w m x.heap x.sized are to n k h b from more t)) m other
-          → answered (perform (appended more l) w) ≡ Some after → Mine → IsLeft StandsFixed Homes apart d m after other to 8
-      append_row small put done mine =
-          text_row (n + length more) (text_then StandsFixed law d w m x.heap x.sized n k b ++ more) other after
-          (appended_there StandsFixed law d w m x.heap x.sized are to n k h b from more t other small put)
+    module _ (more : List ℕ) (other : Memory) (after : World) where
+      pub more_row : LeavesHandle StandsFixed d (heap_resized (has_place w k (n + length more)) w.heap k (n + length more)
+          (Characters (text_then StandsFixed law d w m x.heap x.sized n k b ++ more))) m other to block (n + length more) (n + length more)
+          (block_resized (has_place w k (n + length more)) w.heap k) → answered (perform (appended more l) w) ≡ Some after → Mine
+          → IsLeft StandsFixed Homes apart d m after other to 8
+      more_row left done mine =
+          text_row (n + length more) (text_then StandsFixed law d w m x.heap x.sized n k b ++ more) other after left
           (subst (λ ts. answered (perform (resized (n + length more) (n + length more) (Characters (ts ++ more)) l) w) ≡ Some after) text_now
           (subst (λ v. answered (perform (resized (length_of v + length more) (length_of v + length more) (Characters (text_of w (load w l) ++ more)) l) w)
           ≡ Some after) is
           (sym (behind_answers [] (length more)
           (perform (resized (length_of (load w l) + length more) (length_of (load w l) + length more) (Characters (text_of w (load w l) ++ more)) l) w))
           ∙ done))) mine
+
+      pub append_row : (from : ℕ) (t : TextAt w.heap d.stands m from more) → n + length (source_bytes t.source) < 2 ^ 32
+          → AreContentsPut own_data_at (appended_text (append_use StandsFixed law d w m x.heap x.sized are to n k h b from more t)) m other
+          → answered (perform (appended more l) w) ≡ Some after → Mine → IsLeft StandsFixed Homes apart d m after other to 8
+      append_row from t small put done mine =
+          more_row (appended_there StandsFixed law d w m x.heap x.sized are to n k h b from more t other small put) done mine
 
     -- ---- another length
 

@@ -1,7 +1,7 @@
 -- Lines with texts, all of each: `echo`, labels of a `case`, and literals.
 use Rattle.std.proofs.Common.{◌≡◌, ◌⊎◌, inl, inr, ℕ, List, [], ◌∷◌, Option, Some, None, Bool, true, false, refl, sym, ap, ap₂, subst, ◌∙◌, length, map}
 use Rattle.std.specs.Prelude.{◌&&◌}
-use Rattle.std.proofs.lemmas.Bool.{and_parts, cases_Bool}
+use Rattle.std.proofs.lemmas.Bool.{cases_Bool}
 use Rattle.nim_types.specs.Forms.{form_of}
 use Rattle.nim_types.specs.Table.{facts_in, type_at}
 use Rattle.nim_types.specs.Types.{Ty}
@@ -9,7 +9,6 @@ use Rattle.nim_program.specs.declared.expr.Label.TheVariants as C
 use Rattle.nim_program.specs.declared.operation.Operation.TheVariants as O
 use Rattle.nim_program.specs.declared.operation.Use.{Use}
 use Rattle.nim_program.specs.declared.operation.Use.TheVariants as uses
-use Rattle.nim_program.specs.Kinds.{is_of}
 use Rattle.nim_meaning.specs.Deeds.{Answers, Deed, branch, costs, give, looks, perform, unless_gone, ◌>>=◌}
 use Rattle.nim_meaning.specs.Here.{any_hooked, gives_hooked}
 use Rattle.nim_meaning.specs.Lifted.{fresh_text}
@@ -36,16 +35,16 @@ use Rattle.word_lowering.specs.Aliases.{alias_by, is_read, text_alias, text_in, 
 use Rattle.word_lowering.specs.LineCode.{value}
 use Rattle.word_lowering.specs.Stored.{is_hooked}
 use Rattle.word_lowering.specs.WaitingCode as code
+use Rattle.word_lowering.proofs.ConstantFits.{constant_shape, constant_typed}
 use Rattle.word_lowering.proofs.ApplyFits.{apply_line, of_types}
 use Rattle.word_lowering.proofs.CaseTexts.{text_label_line}
 use Rattle.word_lowering.proofs.ConstantWords.{named_or_own, read_text, text_named}
 use Rattle.word_lowering.proofs.LentTexts.{lent_text}
 use Rattle.word_lowering.proofs.Scenes.{house, of_value}
-use Rattle.word_lowering.proofs.ControlLines.{plain, value_type}
+use Rattle.word_lowering.proofs.ControlLines.{plain}
 use Rattle.word_lowering.proofs.EchoLines.{echo_line}
 use Rattle.word_lowering.proofs.KeptCode.{value_waits}
-use Rattle.word_lowering.proofs.LineFits.{are_of}
-use Rattle.word_lowering.proofs.Lines.{Basis, Completes, IsGood, Settles, bound_for, completes_quiet, fits_here, known, starts, where_there, Whole}
+use Rattle.word_lowering.proofs.Lines.{Basis, Completes, IsGood, Settles, bound_for, completes_quiet, known, starts, where_there, Whole}
 use Rattle.word_lowering.proofs.MadeValues.{made_completes}
 use Rattle.word_lowering.proofs.OperandTexts.{TextsBuilt}
 use Rattle.word_lowering.proofs.OwnedFits.{fits_row}
@@ -158,15 +157,10 @@ module _ (x : Basis) (labels : LabelsLead x) (said : Writing x) (texts : TextsBu
     owned_whole owned y = subst Made (sym hooks) (subst (λ done. Completes x (starts g naming rest) rest (Passes done)) (same how.how owned) made)
       where
         fits_so : has_shape (Fixed text) (shape_of (facts_in x.table) to_type) ≡ true
-        fits_so = (and_parts (has_shape (Fixed text) (shape_of (facts_in x.table) to_type)) _
-            (fits_here x.table x.blocks (body_of g) naming rest y.stands)).0
+        fits_so = (constant_shape x g rest to how ty (P.Text text ∷ []) y).shaped
 
         typed : type_in x is_value (body_of g) to ≡ Some to_type
-        typed =
-            let f = and_parts (has_shape (Fixed text) (shape_of (facts_in x.table) to_type)) _
-            (fits_here x.table x.blocks (body_of g) naming rest y.stands) in
-            let v = are_of (value_type x g naming rest y to) (Some to_type) (and_parts (is_of (value_type x g naming rest y to) (Some to_type)) _ f.1).0 in
-            v.is ∙ sym v.is_other
+        typed = constant_typed x g rest to how ty (P.Text text ∷ []) y
 
         hooks : gives_hooked (facts_in x.table) (Some to_type) ≡ true
         hooks = by (cases_Bool (is_hooked x.table ty))

@@ -22,7 +22,9 @@ use Rattle.word_lowering.specs.Layouts.{is_empty}
 use Rattle.word_lowering.specs.MayLower.{def_may, defs_may}
 use Rattle.word_lowering.proofs.Options.{none_some, some_same}
 use Rattle.word_lowering.proofs.TypeShapes.{within_at, has_form}
-use Rattle.word_lowering.proofs.BlankShapes.{blank_in, blanks_in}
+use Rattle.word_lowering.proofs.BlankShapes.{blank_in, blanks_in, seen_in}
+use Rattle.nim_meaning.specs.Places.{looked_as}
+use Rattle.nim_types.specs.Forms.{form_of}
 
 -- ---- what is known of the types inside
 
@@ -65,6 +67,14 @@ object_starts false fs ss = refl
 object_blank : (own : Bool) (fs : Forms) (ss : Shapes) → blanks fs ≡ blanks_in ss → blank (object_form own fs) ≡ blank_in (object_shape own ss)
 object_blank true fs ss e = ap (λ vs. Resource vs None) e
 object_blank false fs ss e = ap Parts e
+
+object_seen : (own : Bool) (fs : Forms) (v : Value) → looked_as (object_form own fs) v ≡ blank (object_form own fs)
+object_seen true fs v = refl
+object_seen false fs v = refl
+
+object_seen_in : (own : Bool) (ss : Shapes) (v : Value) → blank_in (object_shape own ss) ≡ seen_in (object_shape own ss) v
+object_seen_in true ss v = refl
+object_seen_in false ss v = refl
 
 module _ (table : List TypeDef) where
   abbrev facts : Facts
@@ -146,6 +156,35 @@ module _ (table : List TypeDef) where
       blanks_are : {tys : Tys} {fs : Forms} → AreForms true facts tys fs → AreKnown facts tys → blanks fs ≡ blanks_in (shapes_of facts tys)
       blanks_are none_of k = refl
       blanks_are (more_of {t} {ts = rest} {f} {fs} a s) k = ap₂ More (blank_is a k.0) (blanks_are s k.1)
+
+    -- what is looked at of a value
+    seen_is : {ty : Ty} {f : Form} (v : Value) → HasForm facts ty f → IsKnown facts ty → looked_as f v ≡ seen_in (shape_of facts ty) v
+    seen_is v of_int k = refl
+    seen_is v of_bool k = refl
+    seen_is v of_char k = refl
+    seen_is v of_text k = refl
+    seen_is v (of_sequence s a) k = refl
+    seen_is v (of_any_sequence s) k = absurd (both_ways true s refl)
+    seen_is v (of_array a) k = blank_is (of_array a) k
+    seen_is v (of_tuple {names} a) k = blank_is (of_tuple {names = names} a) k
+    seen_is v of_parameter k = refl
+    seen_is v (of_enum {key}) k =
+        let whole : HasForm facts (enum key) _ = of_enum in
+        let s : Shape = shape_of facts (enum key) in
+        sym (ap (λ t. seen_in t v) (declared_start (enum key) (members (k.0 ∷ k.1)) s (shaped facts (sorted_table table) whole).matches k.2))
+    seen_is v (of_object {key} {arguments} {all} {own_hooks} {fs} e a) k =
+        let whole : HasForm facts (object key arguments) (object_form own_hooks fs) = of_object e a in
+        let s : Shape = shape_of facts (object key arguments) in
+        let same = declared_start (object key arguments) (fields all own_hooks) s (shaped facts (sorted_table table) whole).matches e in
+        object_seen own_hooks fs v ∙ blank_is whole k ∙ ap blank_in same ∙ object_seen_in own_hooks (shapes_of facts (types_of all)) v
+        ∙ sym (ap (λ t. seen_in t v) same)
+    seen_is v (of_distinct {key} {t} {f} e a) k =
+        let whole : HasForm facts (distinct key) _ = of_distinct e a in
+        let s : Shape = shape_of facts (distinct key) in
+        seen_is v a (said (distinct key) (base t) e)
+        ∙ sym (ap (λ u. seen_in u v) (declared_start (distinct key) (base t) s (shaped facts (sorted_table table) whole).matches e))
+    seen_is v of_ref k = refl
+    seen_is v of_exception k = refl
 
 -- ---- the types of a table are known
 
@@ -233,6 +272,12 @@ module _ (table : List TypeDef) (is_table : IsTable table) (may : defs_may table
       let h = has_form table is_table have ty in
       ap (λ f. has_shape (blank f) (shape_of (facts table) (type_at (ts table) ty))) (the_form h.1)
       ∙ starts table (facts_known table) h.1 (known_at ty)
+
+  pub type_seen : HaveForms table → (ty : ℕ) (v : Value)
+      → looked_as (form_of (facts table) (type_at (ts table) ty)) v ≡ seen_in (shape_of (facts table) (type_at (ts table) ty)) v
+  type_seen have ty v =
+      let h = has_form table is_table have ty in
+      ap (λ f. looked_as f v) (the_form h.1) ∙ seen_is table (facts_known table) v h.1 (known_at ty)
 
   pub type_blank : HaveForms table → (ty : ℕ)
       → default_of (facts table) (type_at (ts table) ty) ≡ blank_in (shape_of (facts table) (type_at (ts table) ty))

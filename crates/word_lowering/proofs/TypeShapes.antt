@@ -3,7 +3,7 @@
 use Rattle.std.proofs.Common.{◌≡◌, ◌⊎◌, inl, inr, ℕ, zero, suc, ◌+◌, ◌*◌, ◌≤◌, ◌<◌, List, [], ◌∷◌, length, take, Option, Some, None, Bool}
 use Rattle.std.proofs.Common.{true, false, refl, sym, ap, ap₂, subst, ◌∙◌, arith}
 use Rattle.std.specs.Prelude.{slice_get, nat_lt, ◌&&◌, ◌||◌}
-use Rattle.std.proofs.lemmas.Bool.{and_from, and_parts, and_right, cases_lt}
+use Rattle.std.proofs.lemmas.Bool.{and_from, and_parts, and_right, both_ways, cases_lt}
 use Rattle.std.proofs.lemmas.Option.{slice_get_past}
 use Rattle.arc_base.specs.declared.place.Place.{Place}
 use Rattle.nim_types.specs.declared.types.TheConstants.{WORD_BYTES}
@@ -193,8 +193,8 @@ module _ (table : List TypeDef) where
     handles_of of_bool h = refl
     handles_of of_char h = refl
     handles_of of_text h = refl
-    handles_of (of_sequence d a) h = refl
-    handles_of (of_any_sequence d) h = refl
+    handles_of (of_sequence d a) h = handles_of a h
+    handles_of (of_any_sequence d) h = absurd (both_ways true d refl)
     handles_of (of_array {n} {t} a) h = row_handles n (shape_of facts t) (handles_of a h)
     handles_of (of_tuple a) h = all_handles_of a h
     handles_of of_parameter h = refl

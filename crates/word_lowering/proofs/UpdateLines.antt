@@ -30,7 +30,7 @@ use Rattle.flat_code.specs.Codes.{block_plain}
 use Rattle.flat_code.specs.Fits.{if_kind, is_location, is_standing, is_value, place_named}
 use Rattle.flat_code.specs.Lines.{gives, using}
 use Rattle.flat_code.specs.Running.{scene_of}
-use Rattle.flat_code.specs.Scene.{Passes, Temps, Where, location_at, with_value}
+use Rattle.flat_code.specs.Scene.{Located, Passes, Temps, Where, location_at, with_value}
 use Rattle.flat_code.specs.Shapes.{has_shape, number}
 use Rattle.word_code.specs.declared.word.WordInstr.{WordInstr}
 use Rattle.word_code.specs.declared.word.WordInstr.TheVariants.{Load, Store}
@@ -61,7 +61,7 @@ use Rattle.word_lowering.proofs.LineFits.{int_shape, no_type, number_fits, numbe
 use Rattle.word_lowering.proofs.Lines.{Basis, IsGood, Settles, all_procs, all_sites, changed, changed_later, goes_on, known, lower, mapped_settles, stands_next}
 use Rattle.word_lowering.proofs.Lines.{starts}
 use Rattle.word_lowering.proofs.Lines.{bound_for, where_there}
-use Rattle.word_lowering.proofs.Located.{IsReadAt, full_there, owned_located}
+use Rattle.word_lowering.proofs.Located.{IsReadAt, full_there, led_located, owned_located}
 use Rattle.word_lowering.proofs.MovedLines.{own_plain}
 use Rattle.word_lowering.proofs.Moves.{IsHigh, address_runs, all_same, points_same, same_more, same_second}
 use Rattle.word_lowering.proofs.NumberLines.{variable}
@@ -71,7 +71,7 @@ use Rattle.word_lowering.proofs.OrdinalRuns.{AllSame, beyond, put_here, put_othe
 use Rattle.word_lowering.proofs.OutPlaces.{Written, far_written, high_in_memory, letter_written, own_written}
 use Rattle.word_lowering.proofs.ReadFacts.{item_read}
 use Rattle.word_lowering.proofs.Related.{Both, body_of, high, within}
-use Rattle.word_lowering.proofs.Scenes.{At as IsHeldAt, FromOwned, FromPlace, IsThere, Points, address_of, house, looked, of_place, of_location}
+use Rattle.word_lowering.proofs.Scenes.{At as IsHeldAt, may_owned, FromOwned, FromPlace, IsThere, Points, address_of, house, looked, of_place, of_location}
 use Rattle.word_lowering.proofs.Settling.{LabelsLead, TrapsStop, code_here, code_next, code_of_line, trap_settles}
 use Rattle.word_lowering.proofs.ShapeFacts.{never, of_numbers}
 use Rattle.word_lowering.proofs.Sites.{Housing, InMemory, Site, around, by_address, data_end, in_data, in_places, in_variable, room}
@@ -81,7 +81,7 @@ use Rattle.word_lowering.proofs.StoreLines.{none_temps, writes_at}
 use Rattle.word_lowering.proofs.Stores.{good_written, ground_then}
 use Rattle.word_lowering.proofs.UpdateRuns.{Comes, fourth_stored, update_comes}
 use Rattle.word_lowering.proofs.ValueFacts.{type_in, IsPlain}
-use Rattle.word_lowering.proofs.GoodLeads.{owned_numbers, owned_seen}
+use Rattle.word_lowering.proofs.GoodLeads.{owned_seen}
 use Rattle.word_lowering.proofs.UpdateTraps.{may_map, step_updates, updated_may}
 
 module _ (x : Basis) (g : Both) (line : BlockLine) (rest : List BlockLine) (y : IsGood x (starts g line rest)) where
@@ -98,15 +98,17 @@ module _ (x : Basis) (g : Both) (line : BlockLine) (rest : List BlockLine) (y : 
         → looked x.table g.call.site (of_place n) ≡ number None → (house g.call.site (of_place n)).home ≡ Variable v → OWN_FROM ≤ v
         → h ≡ house g.call.site (of_place n) → (old : Value) → slot_at g.world g.call.site.level n ≡ Some (Holds old)
         → l ≡ place_at g.call.site.level n → WordAt h l
+    -- it is read where it stands, and somebody owns it if it may change
     lies_at : (home : Home) → spot_of h ≡ Lies home → IsHigh home → (a : ℕ) → Points g.call.site.base g.call.vars home a
-        → FromOwned x.table sites g.ground g.world l a (number None) → WordAt h l
+        → IsReadAt x sites y.linked g.memory (load g.world l) a (number None)
+        → (may_change l.base ≡ true → FromOwned x.table sites g.ground g.world l a (number None)) → WordAt h l
 
-  word_at : (h : Housed) (l : Location) → is_whole g.world (load g.world l) ≡ true → Written x g line rest y h l (number None) → WordAt h l
-  word_at h l whole (far_written home spot up a points stood leads) =
-      let owned = owned_numbers x (starts g line rest) y l a (number None) refl stood leads in
-      lies_at home spot up a points (owned_seen x (starts g line rest) y l a (number None) owned leads whole)
-  word_at h l whole (letter_written home spot up a points owned letter leads) = never letter
-  word_at h l whole (own_written n there own is look old slot l_is) = by (houses x.table x.blocks g.call.site (of_place n) y.linked.0 there).where_is
+  word_at : (h : Housed) (l : Location) → is_full_at g.world l ≡ true → Written x g line rest y h l (number None) → WordAt h l
+  word_at h l full (far_written home spot up a points stood leads) =
+      lies_at home spot up a points (led_located x (starts g line rest) y g.call (inl refl) (inl refl) (Located l) a (number None) refl full leads)
+      (λ changes. owned_seen x (starts g line rest) y l a (number None) (may_owned l.base stood changes) leads (full_there x (starts g line rest) y l full).1)
+  word_at h l full (letter_written home spot up a points owned letter leads) = never letter
+  word_at h l full (own_written n there own is look old slot l_is) = by (houses x.table x.blocks g.call.site (of_place n) y.linked.0 there).where_is
     where
       plain_is : holds_address (house g.call.site (of_place n)) ≡ false
       plain_is = own_plain (house g.call.site (of_place n)) own
@@ -115,9 +117,8 @@ module _ (x : Basis) (g : Both) (line : BlockLine) (rest : List BlockLine) (y : 
       lying inside =
           let home : Home = (house g.call.site (of_place n)).home in
           let a : ℕ = address_of g.call.site.base home in
-          lies_at home (ap spot_of is ∙ spot_memory (house g.call.site (of_place n)) plain_is inside) (high_in_memory home inside) a
-          (points_there g.call.site.base g.call.vars home inside)
-          (inl (subst (λ k. FromPlace x.table (all_sites x g line rest y) g.world k a (number None)) (sym l_is) (record {
+          let owned : FromOwned x.table sites g.ground g.world l a (number None)
+          = inl (subst (λ k. FromPlace x.table (all_sites x g line rest y) g.world k a (number None)) (sym l_is) (record {
             site = g.call.site;
             among = inl refl;
             number = n;
@@ -128,7 +129,9 @@ module _ (x : Basis) (g : Both) (line : BlockLine) (rest : List BlockLine) (y : 
             offset = 0;
             path = (refl, look);
             address = omega arith;
-          })))
+          })) in
+          lies_at home (ap spot_of is ∙ spot_memory (house g.call.site (of_place n)) plain_is inside) (high_in_memory home inside) a
+          (points_there g.call.site.base g.call.vars home inside) (owned_located x (starts g line rest) y l a (number None) owned refl full) (λ changes. owned)
 
       by : Housing (room (body_of g)) FIXED_BYTES (data_end x.table x.blocks) (body_of g).start (house g.call.site (of_place n)) → WordAt h l
       by (in_variable v e p least w) = held_at n v there own look e least is old slot l_is
@@ -141,7 +144,8 @@ module _ (x : Basis) (g : Both) (line : BlockLine) (rest : List BlockLine) (y : 
   module _ (traps : TrapsStop x) (temps : Temps) (same_at : SameTemps x g line rest y temps) where
     -- another number stands there, or the run ends
     abbrev Outcome : Value → Location → Checked → Type 0
-    Outcome old l (Fine z) = Settles x (starts g line rest) rest (Passes (Answers [] (1 + (bytes old + (4 + 0))) temps (store g.world l (Number z))))
+    Outcome old l (Fine z) = may_change l.base ≡ true
+        → Settles x (starts g line rest) rest (Passes (Answers [] (1 + (bytes old + (4 + 0))) temps (store g.world l (Number z))))
     Outcome old l (Trapped trap) = Settles x (starts g line rest) rest (Passes (Finishes (writes Err (line_of (trap_text trap)))
         (1 + bytes old + length (line_of (trap_text trap))) 1 g.world))
 
@@ -215,7 +219,7 @@ module _ (x : Basis) (g : Both) (line : BlockLine) (rest : List BlockLine) (y : 
         held_did : (r : Checked) → MayTrap LineLeads r
             → Comes x.live (all_procs x) (within x.table x.blocks g) g.memory g.words (binary_code label operator t t by next) v t next r
             → Outcome old (place_at g.call.site.level n) r
-        held_did (Fine z) leads c =
+        held_did (Fine z) leads c = λ changes.
             let get = gets z c in
             let world = with_slot g.world g.call.site.level n (Some (Holds (Number z))) in
             goes_on x (starts g line rest) (changed g rest temps get.vars get.memory get.words get.awaits world) rest
@@ -243,13 +247,10 @@ module _ (x : Basis) (g : Both) (line : BlockLine) (rest : List BlockLine) (y : 
 
       -- at an address
       module _ (l : Location) (home : Home) (spot : spot_of h ≡ Lies home) (up : IsHigh home) (a : ℕ)
-          (points : Points g.call.site.base g.call.vars home a) (f : FromOwned x.table sites g.ground g.world l a (number None))
-          (full : is_full_at g.world l ≡ true) where
+          (points : Points g.call.site.base g.call.vars home a) (at_there : IsReadAt x sites y.linked g.memory (load g.world l) a (number None))
+          (owned : may_change l.base ≡ true → FromOwned x.table sites g.ground g.world l a (number None)) (full : is_full_at g.world l ≡ true) where
         abbrev old : Value
         old = load g.world l
-
-        at_there : IsReadAt x sites y.linked g.memory old a (number None)
-        at_there = owned_located x (starts g line rest) y l a (number None) f refl full
 
         live : is_there g.world l ≡ true
         live = (full_there x (starts g line rest) y l full).0
@@ -307,7 +308,8 @@ module _ (x : Basis) (g : Both) (line : BlockLine) (rest : List BlockLine) (y : 
 
         lies_did : (r : Checked) → MayTrap LineLeads r
             → Comes x.live (all_procs x) (within x.table x.blocks g) g.memory g.words computes v2 FOURTH stores r → Outcome old l r
-        lies_did (Fine z) leads c =
+        lies_did (Fine z) leads c = λ changes.
+            let f = owned changes in
             let w = c.1 in
             let same3 : AllSame g.call.vars w.vars = record {
               others = λ u high_u. w.but.others u high_u (λ e. absurd (omega (arith, e, high_u))) ∙ same2.others u high_u;
@@ -345,7 +347,7 @@ module _ (x : Basis) (g : Both) (line : BlockLine) (rest : List BlockLine) (y : 
       update_settles l (held_at n t there own look home least is old slot l_is) full =
           subst (λ k. Outcome (load g.world k) k (applied operator (number_of (load g.world k)) step)) (sym l_is)
           (held_settles n t there own look home least is old slot)
-      update_settles l (lies_at home spot up a points f) full = lies_settles l home spot up a points f full
+      update_settles l (lies_at home spot up a points at_there owned) full = lies_settles l home spot up a points at_there owned full
 
 -- ---- the line
 
@@ -370,7 +372,7 @@ module _ (x : Basis) (traps : TrapsStop x) (labels : LabelsLead x) (g : Both) (r
         >>= (λ u. give (with_value to g.call.temps u))) g.world)))) (λ before. tt)
         (λ changes. where_there x (starts g line rest) rest (is_there g.world l) (λ b. Passes (behind [] 1 (behind [] (bytes old) (perform
         (((costs 4 (unless_gone b (does (Stores l (Number z))) >> give nothing)) >>= kept_if false (bound_for g how))
-        >>= (λ u. give (with_value to g.call.temps u))) g.world)))) (λ before. tt) (λ seen. d))
+        >>= (λ u. give (with_value to g.call.temps u))) g.world)))) (λ before. tt) (λ seen. d changes))
     as_deed (Trapped trap) old l same_at d =
         subst (λ e. Settles x (starts g line rest) rest e)
         (ap (λ es. Passes (Finishes es (1 + bytes old + length (line_of (trap_text trap))) 1 g.world))
@@ -404,7 +406,7 @@ module _ (x : Basis) (traps : TrapsStop x) (labels : LabelsLead x) (g : Both) (r
         >>= kept_if false (bound_for g how))) (λ before. tt)
         (λ seen. as_deed (applied operator (number_of (load g.world w.at)) step) (load g.world w.at) w.at same_at
         (update_settles x g line rest y traps temps same_at h operator up label by high_by step step_fits v same step_is front short runs shown w.at
-        (word_at x g line rest y h w.at (full_there x (starts g line rest) y w.at seen).1
+        (word_at x g line rest y h w.at seen
         (subst (λ q. Written x g line rest y h w.at q) (int_shape (facts_in x.table) s.0 s.2) w.written)) seen)))
 
   -- by 1

@@ -1,7 +1,6 @@
 pub mod Operands
 pub mod Stored
 pub mod ShapeBytes
-pub mod StandingBlocks
 pub mod Aliases
 pub mod Survey
 pub mod Lookups
@@ -12,6 +11,8 @@ pub mod Emission
 pub mod Spots
 pub mod Operations
 pub mod WaitingCode
+pub mod Handled
+pub mod Linked
 pub mod Texts
 pub mod LaidTexts
 pub mod LineCode

@@ -1,6 +1,6 @@
 -- The word code of block code: for each line some lines, which stand before those of the lines behind it. The code of a line is a function of
 -- it and of the lines behind it. No public contract speaks of it.
-use Rattle.std.specs.Prelude.{ℕ, zero, suc, ◌+◌, ◌-◌, ◌*◌, Bool, true, false, ◌&&◌, List, [], ◌∷◌, length, map, Option, Some, None, slice_get}
+use Rattle.std.specs.Prelude.{ℕ, zero, suc, ◌+◌, ◌-◌, ◌*◌, Bool, true, false, ◌&&◌, List, [], ◌∷◌, length, map, not, Option, Some, None, slice_get}
 use Rattle.arc_base.specs.declared.outside.Stream.TheVariants.{Out}
 use Rattle.nim_types.specs.declared.types.TypeDef.{TypeDef}
 use Rattle.nim_types.specs.declared.types.TypeDef.TheVariants as D
@@ -51,7 +51,7 @@ use Rattle.word_lowering.specs.declared.homes.Waiter.{Waiter}
 use Rattle.word_lowering.specs.declared.spots.Spot.{Spot}
 use Rattle.word_lowering.specs.declared.spots.Spot.TheVariants.{Held, Lies, Letter}
 use Rattle.word_lowering.specs.declared.texts.TheConstants.{LINE_END_AT, FALSE_AT}
-use Rattle.word_lowering.specs.Stored.{base_at, entry_at, part_at, count_in, element_bytes, limit_at}
+use Rattle.word_lowering.specs.Stored.{base_at, entry_at, part_at, count_in, element_bytes, is_hooked, limit_at}
 use Rattle.word_lowering.specs.HookCalled.{hook_called}
 use Rattle.word_lowering.specs.Layouts.{free_at, holds_address, params_in, result_in, found}
 use Rattle.flat_code.specs.Fits.{is_location}
@@ -99,12 +99,11 @@ abbrev pub unless_zero : Home → ℕ → List WordInstr → List WordInstr
 unless_zero to zero k = k
 unless_zero to (suc n) k = address FIRST to ∷ Constant SECOND (suc n) ∷ Store FIRST SECOND whole ∷ k
 
--- what comes with the heap isn't built
+-- of numbers
 abbrev pub pieces_code : Home → List Piece → List WordInstr → List WordInstr
 pieces_code to [] k = k
 pieces_code to (P.Ordinal z ∷ pieces) k = unless_zero to (word z) (pieces_code (shifted 4 to) pieces k)
 pieces_code to (P.Parts zero ∷ pieces) k = pieces_code (shifted 4 to) pieces k
-pieces_code to (P.Elements zero ∷ pieces) k = pieces_code (shifted 4 to) pieces k
 pieces_code to (piece ∷ pieces) k = pieces_code to pieces k
 
 abbrev pub truth_word : Bool → ℕ
@@ -319,17 +318,6 @@ module _ (x : Around) where
   fields_code to ty (field ∷ fields) (h ∷ hs) k =
       moved h.is_word h.bytes (Lies (shifted (part_at x.table ty field) to)) (spot_of h) (fields_code to ty fields hs k)
 
-  -- ---- constants
-
-  -- a text that is read is that of the data, and one that somebody gets is a copy of it
-  abbrev pub constant_by : (read : Bool) → Option (List ℕ) → Housed → List Piece → List WordInstr → List WordInstr
-  constant_by read None to pieces k = constant_at to (spot_of to) pieces k
-  constant_by true (Some text) to pieces k = lent_text_code x to.alias to.home text k
-  constant_by false (Some text) to pieces k = text_copy_code x to.home text k
-
-  abbrev pub constant_code : Use → Housed → List Piece → List WordInstr → List WordInstr
-  constant_code how to pieces k = constant_by (is_read how) (text_in pieces) to pieces k
-
   -- ---- labels of a `case`
 
   -- a text is compared with one that has its handle, or gets one
@@ -389,7 +377,7 @@ module _ (x : Around) where
 
   -- and a constant that stands in the data
   abbrev pub standing_at : List Piece → ℕ
-  standing_at pieces = x.setting.texts + standing_place x.procs pieces
+  standing_at pieces = x.setting.texts + standing_place x.from x.procs pieces
 
   -- The text of an operand by what its type is; `enum` is the type's number. What the table lacks is an int.
   abbrev pub written_code : Option TypeDef → (enum : ℕ) → Housed → List WordInstr → List WordInstr
@@ -474,12 +462,35 @@ module _ (x : Around) where
   abbrev pub hook_code : Hook → (ty : ℕ) → (to from : Home) → List WordInstr → List WordInstr
   hook_code hook ty to from k = hook_called (proc_number (length x.layouts)) hook ty to from k
 
-  -- a copy of what is found, by a hook unless its bits are one
-  abbrev pub got_code : (hooked : Bool) → Option ℕ → (to from : Housed) → List WordInstr → List WordInstr
-  got_code true (Some ty) to from k = hook_code Copies ty to.home from.home k
-  got_code hooked ty to from k = moves to from k
+  -- what has blocks and is no text is looked at as a blank one
+  abbrev pub is_seen_blank : Option ℕ → Bool
+  is_seen_blank ty = gives_hooked x.table ty && not (is_text (entry_of x.table ty))
 
-  -- an assignment, by a hook unless a row does it
+  -- a copy of what is found, by a hook; or what is looked at of it
+  abbrev pub got_code : (copied blank : Bool) → Option ℕ → (to from : Housed) → List WordInstr → List WordInstr
+  got_code true blank (Some ty) to from k = hook_code Copies ty to.home from.home k
+  got_code copied true ty to from k = clears to k
+  got_code copied blank ty to from k = moves to from k
+
+  -- ---- constants
+
+  -- what has texts or sequences inside is a copy of what stands in the data
+  abbrev pub built_code : (hooked : Bool) → (ty : ℕ) → Housed → List Piece → List WordInstr → List WordInstr
+  built_code true ty to pieces k = hook_code Copies ty to.home (Static (standing_at pieces)) k
+  built_code false ty to pieces k = constant_at to (spot_of to) pieces k
+
+  -- a text that is read is that of the data, and one that somebody gets is a copy of it
+  abbrev pub constant_by : (read hooked : Bool) → Option (List ℕ) → (ty : ℕ) → Housed → List Piece → List WordInstr → List WordInstr
+  constant_by read hooked None ty to pieces k = built_code hooked ty to pieces k
+  constant_by true hooked (Some text) ty to pieces k = lent_text_code x to.alias to.home text k
+  constant_by false hooked (Some text) ty to pieces k = text_copy_code x to.home text k
+
+  abbrev pub constant_code : Use → (ty : ℕ) → Housed → List Piece → List WordInstr → List WordInstr
+  constant_code how ty to pieces k = constant_by (is_read how) (is_hooked x.table ty) (text_in pieces) ty to pieces k
+
+  -- ---- assignments
+
+  -- by a hook unless a row does it
   abbrev pub assigned_code : (hooked : Bool) → (row : List WordInstr → List WordInstr) → Option ℕ → List From → List WordInstr → List WordInstr
   assigned_code true row (Some ty) from k =
       hook_code (taking from 1) ty (operand_at (operands x from) 0).home (operand_at (operands x from) 1).home k
@@ -522,9 +533,10 @@ module _ (x : Around) where
   abbrev pub line_code : Line → (label : ℕ) → List WordInstr → List WordInstr
   line_code (L.Apply to operation how ty of from) label k = applied_code operation label to ty of from k
   line_code (L.Construct to how ty fields from) label k = clears (value x to) (fields_code (value x to).home ty fields (operands x from) k)
-  line_code (L.Constant to how ty pieces) label k = constant_code how.how (value x to) pieces k
+  line_code (L.Constant to how ty pieces) label k = constant_code how.how ty (value x to) pieces k
   line_code (L.Call to how ty proc from) label k = Spend ∷ call_code label proc ty to from k
-  line_code (L.Get to from how ty) label k = got_code (gives_hooked x.table ty && is_copied how.how) ty (value x to) (location x from) k
+  line_code (L.Get to from how ty) label k =
+      got_code (gives_hooked x.table ty && is_copied how.how) (is_seen_blank ty) ty (value x to) (location x from) k
   line_code (L.Look to from) label k = moves (value x to) (location x from) k
   line_code (L.Root to p global) label k = root_code (own_alias to) (led to) (place x p global).home k
   line_code (L.Fresh to from waits) label k = k

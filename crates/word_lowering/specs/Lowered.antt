@@ -128,6 +128,7 @@ abbrev pub around_start : List TypeDef → List (CodeProc BlockLine) → List La
 around_start table procs all own = record {
   table = table;
   procs = procs;
+  from = data_at + texts_at table own.free.datum;
   layouts = all;
   own = own;
   globals = own.all;

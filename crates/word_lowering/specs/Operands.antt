@@ -44,10 +44,12 @@ abbrev pub word_argument : (index : ℕ) → Home → List WordInstr → List Wo
 word_argument index (Variable v) k = Argument index v ∷ k
 word_argument index home k = address FIRST home ∷ Argument index FIRST ∷ k
 
--- ---- what is around lines: the table of types, all procedures, their layouts and the procedure's own, the globals, and where its data is
+-- ---- what is around lines: the table of types, all procedures, the address from which their texts are laid out, their layouts and the procedure's own,
+-- the globals, and where its data is
 pub record Around : Type 0 where
   pub table : List TypeDef
   pub procs : List (CodeProc BlockLine)
+  pub from : ℕ
   pub layouts : List Layout
   pub own : Layout
   pub globals : List Housed
@@ -86,8 +88,8 @@ module _ (x : Around) where
 
   -- where a literal of the procedure is laid out: so many bytes, behind so many of its literals
   abbrev pub literal_at : (behind bytes : ℕ) → ℕ
-  literal_at behind bytes = x.setting.texts + place_of x.procs (x.setting.literals + behind) bytes
+  literal_at behind bytes = x.setting.texts + place_of x.from x.procs (x.setting.literals + behind) bytes
 
   -- and where a text is, whichever line has it
   abbrev pub text_at : List ℕ → ℕ
-  text_at text = x.setting.texts + text_place x.procs text
+  text_at text = x.setting.texts + text_place x.from x.procs text

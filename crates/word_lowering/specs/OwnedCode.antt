@@ -1,6 +1,7 @@
 -- The word code of rows of operations on texts and sequences. A text operand is the address of a handle: that of its home, or one in the
 -- data, to which the handle of a literal, of a character or of a name is put first. No public contract speaks of it.
-use Rattle.std.specs.Prelude.{ℕ, zero, suc, ◌+◌, ◌*◌, Bool, true, false, List, [], ◌∷◌, length, Option, Some, None, nat_lt, if◌then◌else◌}
+use Rattle.std.specs.Prelude.{ℕ, zero, suc, ◌+◌, ◌-◌, ◌*◌, ◌^◌, Bool, true, false, List, [], ◌∷◌, length, Option, Some, None, nat_lt, if◌then◌else◌}
+use Rattle.nim_types.specs.declared.blocks.TheConstants.{HEADER_BYTES}
 use Rattle.nim_types.specs.declared.types.TypeDef.{TypeDef}
 use Rattle.nim_types.specs.declared.types.TypeDef.TheVariants as D
 use Rattle.nim_types.specs.Table.{facts_in, types_in, type_at}
@@ -53,6 +54,10 @@ base_of table (Some ty) = base_at table ty
 abbrev pub is_text : Option TypeDef → Bool
 is_text (Some D.Text) = true
 is_text entry = false
+
+abbrev pub is_char : Option TypeDef → Bool
+is_char (Some D.Char) = true
+is_char entry = false
 
 -- texts and sequences are in handles
 abbrev pub has_handle : Option TypeDef → Bool
@@ -150,6 +155,37 @@ added_code to size from k = add_code FIFTH to size (moved from.is_word from.byte
 abbrev pub popped_code : (to : Housed) → Home → (size : ℕ) → List WordInstr → List WordInstr
 popped_code to from size k = filled_code from (pop_code FIFTH from size (moved to.is_word to.bytes (spot_of to) (Lies (Variable FIFTH)) k))
 
+-- what makes the place of a block the address of its header
+abbrev pub header_less : ℕ
+header_less = 2 ^ 32 - HEADER_BYTES
+
+-- Control goes on at the label unless the block of a handle has room for a character more behind its text. The block's bytes, with its header, are
+-- 8 shifted by the header's first word; a text without a block has the place 0.
+abbrev pub room_lines : (label : ℕ) → List WordInstr → List WordInstr
+room_lines label k =
+    Load SECOND FIRST whole ∷ Sum THIRD FIRST 4 ∷ Load THIRD THIRD whole
+    ∷ Constant FOURTH 8 ∷ Branch test.Below THIRD FOURTH label
+    ∷ Sum FIFTH THIRD header_less ∷ Load FIFTH FIFTH whole ∷ Compute FOURTH operation.ShiftLeft FOURTH FIFTH
+    ∷ Sum FIFTH SECOND HEADER_BYTES ∷ Branch test.NotBelow FIFTH FOURTH label ∷ k
+
+-- it is put there, and control goes on at the second label behind this one
+abbrev pub letter_put_lines : (label from : ℕ) → List WordInstr → List WordInstr
+letter_put_lines label from k =
+    Compute FIFTH operation.Add THIRD SECOND ∷ Store FIFTH from Byte
+    ∷ Sum SECOND SECOND 1 ∷ Store FIRST SECOND whole ∷ Sum FIRST FIRST 4 ∷ Store FIRST THIRD whole
+    ∷ Jump (label + 2) ∷ Label label ∷ k
+
+abbrev pub in_place_lines : (label from : ℕ) → List WordInstr → List WordInstr
+in_place_lines label from k = room_lines label (letter_put_lines label from k)
+
+abbrev pub in_place_code : (label : ℕ) → Home → (from : ℕ) → List WordInstr → List WordInstr
+in_place_code label to from k = address FIRST to ∷ in_place_lines label from k
+
+-- by the routine where it isn't put in place
+abbrev pub added_letter_code : (label : ℕ) → Home → (from : ℕ) → List WordInstr → List WordInstr
+added_letter_code label to from k =
+    in_place_code label to from (letter_code RIGHT_HANDLE_AT from (append_code to (Static RIGHT_HANDLE_AT) (Label (label + 2) ∷ k)))
+
 abbrev pub literal_home : (at : ℕ) → Alias → Home → Home
 literal_home at (alias.Text behind bytes) home = Static at
 literal_home at other home = home
@@ -223,6 +259,10 @@ module _ (x : Around) where
   shown_code entry to ty from k =
       name_text LEFT_HANDLE_AT entry (base_of x.table ty) from (copy_code to (entry_home LEFT_HANDLE_AT entry from) k)
 
+  abbrev pub appended_code : (letter : Bool) → (label : ℕ) → Home → Option ℕ → Housed → List WordInstr → List WordInstr
+  appended_code true label to ty from k = added_letter_code label to (variable_of from) k
+  appended_code false label to ty from k = text_made RIGHT_HANDLE_AT ty from (append_code to (text_home RIGHT_HANDLE_AT ty from) k)
+
   -- the number of the procedure by which what stands in a type's values from a position on ends
   abbrev pub cut_number : ℕ → ℕ
   cut_number ty = PROCS_FROM + length x.layouts + (5 * ty + 4)
@@ -254,7 +294,8 @@ module _ (x : Around) where
   owned_code O.ReadLineInto label of to hs k = read_code (variable_of to) (operand_at hs 0).home k
   owned_code O.Add label of to hs k = added_code (operand_at hs 0).home (size_in (operand_at hs 0)) (operand_at hs 1) k
   owned_code O.Append label of to hs k =
-      text_made RIGHT_HANDLE_AT (type_of of 1) (operand_at hs 1) (append_code (operand_at hs 0).home (right_of of hs) k)
+      with_operands 2 hs
+      (appended_code (is_char (entry_of x.table (type_of of 1))) label (operand_at hs 0).home (type_of of 1) (operand_at hs 1) k) k
   owned_code O.SetLength label of to hs k =
       with_operands 2 hs (counted_code (variable_of (operand_at hs 1))
       (sized_code (is_text (entry_at x.table (operand_at hs 0).ty)) label (operand_at hs 0).ty (operand_at hs 0).home (variable_of (operand_at hs 1)) k))

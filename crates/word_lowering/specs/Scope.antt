@@ -4,15 +4,15 @@ use Rattle.word_lowering.specs.declared.scope.Scope.{Scope}
 use Rattle.word_lowering.specs.Layouts.{IsCounted, AreCounted}
 use Rattle.word_lowering.specs.LineCode.{Around}
 use Rattle.word_lowering.specs.Stored.{HaveForms}
-use Rattle.flat_code.specs.Codes.{block_plain}
-use Rattle.flat_code.specs.Sizes.{distinct_texts}
 use Rattle.word_lowering.specs.declared.texts.TheConstants.{HANDLE_BYTES}
+use Rattle.word_lowering.specs.Linked.{laid_out}
 use Rattle.word_lowering.specs.Texts.{all_names, laid_length}
 
 abbrev pub around_of : Scope → Around
 around_of x = record {
   table = x.types.now;
-  procs = x.texts.now;
+  procs = x.texts.now.procs;
+  from = x.texts.now.from;
   layouts = x.layouts.now;
   own = x.own.now;
   globals = x.globals.now;
@@ -25,4 +25,4 @@ pub record HasRoom (x : Around) : Type 0 where
   pub own : IsCounted x.own
   pub layouts : AreCounted x.layouts
   pub names : x.setting.ends + 4 * suc (length (all_names x.table)) ≤ 4294967295
-  pub texts : x.setting.texts + (HANDLE_BYTES + laid_length (distinct_texts block_plain x.procs)) ≤ 4294967295
+  pub texts : x.setting.texts + (HANDLE_BYTES + laid_length (laid_out x.from x.procs)) ≤ 4294967295

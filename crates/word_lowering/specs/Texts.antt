@@ -1,8 +1,7 @@
 -- The data of word code: what each program has, then globals, then the names of enums with where each ends, then the distinct texts of constants and
--- the constants that stand in the data, each from a word on and behind its handle: how many bytes it has, and their address.
+-- what else of constants stands in the data, each from a word on and behind its handle: how many bytes it has, and their address.
 -- Each procedure's data is all of it. No public contract speaks of it.
-use Rattle.std.specs.Prelude.{ℕ, suc, ◌+◌, ◌*◌, ◌-◌, ◌%◌, if◌then◌else◌, List, [], ◌∷◌, ◌++◌, length, map, take, drop, replicate, codes, Option, Some, None}
-use Rattle.nim_types.specs.Types.{same_text}
+use Rattle.std.specs.Prelude.{ℕ, suc, ◌+◌, ◌*◌, ◌-◌, if◌then◌else◌, List, [], ◌∷◌, ◌++◌, length, map, take, drop, replicate, codes}
 use Rattle.nim_types.specs.declared.types.TypeDef.{TypeDef}
 use Rattle.nim_types.specs.declared.types.TypeDef.TheVariants as D
 use Rattle.nim_types.specs.declared.types.TheConstants.{WORD_BYTES}
@@ -12,22 +11,15 @@ use Rattle.flat_code.specs.declared.code.CodeProc.{CodeProc}
 use Rattle.flat_code.specs.declared.line.Piece.{Piece}
 use Rattle.flat_code.specs.declared.line.Piece.TheVariants as P
 use Rattle.flat_code.specs.Codes.{block_plain}
-use Rattle.flat_code.specs.Pieces.{standing_bytes}
-use Rattle.flat_code.specs.Sizes.{distinct_texts}
+use Rattle.flat_code.specs.Pieces.{has_links, standing_bytes}
 use Rattle.word_code.specs.Memory.{own_data_at}
 use Rattle.heap_memory.specs.declared.numbers.TheConstants.{HEAP_DATA}
 use Rattle.word_lowering.specs.declared.handed.TheConstants.{LEFT_HANDLE_AT}
-use Rattle.word_lowering.specs.declared.texts.TheConstants.{HANDLE_BYTES}
+use Rattle.word_lowering.specs.Linked.{linked_bytes, laid_out}
 pub use Rattle.word_lowering.specs.Aliases.{text_of, texts_of}
+pub use Rattle.word_lowering.specs.Handled.{missing, padded, handled, laid_length, laid, place_among, or_zero, behind_handle}
 
 -- ---- what each program has: a word whose first byte is a character that is written, a line end, the names of bools
-
--- zeros up to a whole number of words
-abbrev pub missing : ℕ → ℕ
-missing n = (4 - n % 4) % 4
-
-abbrev pub padded : List ℕ → List ℕ
-padded bytes = bytes ++ replicate (missing (length bytes)) 0
 
 abbrev pub fixed_texts : List ℕ
 fixed_texts = padded (codes "\n") ++ (padded (codes "false") ++ padded (codes "true"))
@@ -71,50 +63,31 @@ texts_in (p ∷ procs) = texts_in procs ++ texts_of (map block_plain p.lines)
 abbrev pub data_at : ℕ
 data_at = own_data_at + HEAP_DATA
 
--- a text behind its handle, which stands at an address
-abbrev pub handled : (at : ℕ) → List ℕ → List ℕ
-handled at text = word_bytes (length text) ++ (word_bytes (at + HANDLE_BYTES) ++ padded text)
-
-abbrev pub laid_length : List (List ℕ) → ℕ
-laid_length [] = 0
-laid_length (text ∷ texts) = laid_length texts + (HANDLE_BYTES + length (padded text))
-
--- from an address on
-abbrev pub laid : (from : ℕ) → List (List ℕ) → List ℕ
-laid from [] = []
-laid from (text ∷ texts) = laid from texts ++ handled (from + laid_length texts) text
-
--- where the handle of a text stands
-abbrev pub place_among : List (List ℕ) → (text : List ℕ) → Option ℕ
-place_among [] text = None
-place_among (other ∷ texts) text = if same_text text other then Some (laid_length texts) else place_among texts text
-
-abbrev pub or_zero : Option ℕ → ℕ
-or_zero None = 0
-or_zero (Some n) = n
-
 abbrev pub laid_texts : (from : ℕ) → List (CodeProc BlockLine) → List ℕ
-laid_texts from procs = laid from (distinct_texts block_plain procs)
+laid_texts from procs = laid from (laid_out from procs)
 
-abbrev pub handle_place : List (CodeProc BlockLine) → List ℕ → ℕ
-handle_place procs text = or_zero (place_among (distinct_texts block_plain procs) text)
+-- where the handle of a text is laid out, and where the text is
+abbrev pub handle_place : (from : ℕ) → List (CodeProc BlockLine) → List ℕ → ℕ
+handle_place from procs text = or_zero (place_among (laid_out from procs) text)
 
--- where a text is laid out
-abbrev pub text_place : List (CodeProc BlockLine) → List ℕ → ℕ
-text_place procs text = handle_place procs text + HANDLE_BYTES
+abbrev pub text_place : (from : ℕ) → List (CodeProc BlockLine) → List ℕ → ℕ
+text_place from procs text = behind_handle (laid_out from procs) text
 
 -- where the literal of so many bytes is laid out that stands at this offset in the code
-abbrev pub place_of : List (CodeProc BlockLine) → (offset bytes : ℕ) → ℕ
-place_of procs offset bytes = text_place procs (take bytes (drop offset (texts_in procs)))
+abbrev pub place_of : (from : ℕ) → List (CodeProc BlockLine) → (offset bytes : ℕ) → ℕ
+place_of from procs offset bytes = text_place from procs (take bytes (drop offset (texts_in procs)))
 
--- where a constant is laid out by its bytes
-abbrev pub constant_place : List (CodeProc BlockLine) → List Piece → ℕ
-constant_place procs pieces = text_place procs (standing_bytes pieces)
+-- where a constant is laid out by its bytes: one without texts or sequences, and one with some
+abbrev pub constant_place : (from : ℕ) → List (CodeProc BlockLine) → List Piece → ℕ
+constant_place from procs pieces = text_place from procs (standing_bytes pieces)
+
+abbrev pub linked_place : (from : ℕ) → List (CodeProc BlockLine) → List Piece → ℕ
+linked_place from procs pieces = text_place from procs (linked_bytes from (laid_out from procs) pieces)
 
 -- where what a constant that stands in the data leads to is laid out: the handle of a text, or its bytes
-abbrev pub standing_place : List (CodeProc BlockLine) → List Piece → ℕ
-standing_place procs (P.Text text ∷ []) = handle_place procs text
-standing_place procs pieces = constant_place procs pieces
+abbrev pub standing_place : (from : ℕ) → List (CodeProc BlockLine) → List Piece → ℕ
+standing_place from procs (P.Text text ∷ []) = handle_place from procs text
+standing_place from procs pieces = if has_links pieces then linked_place from procs pieces else constant_place from procs pieces
 
 -- ---- all of it
 

@@ -8,7 +8,7 @@ ghost use Rattle.word_lowering.specs.Scope.{around_of};
 use crate::calls::proc_number;
 use crate::homes::{FIRST, Home, Housed, SECOND, Waiter};
 use crate::scope::Scope;
-use crate::spots::{address, argument, branch, call, constant, emit, emit_moves};
+use crate::spots::{address, argument, branch, call, constant, emit, emit_clears, emit_moves};
 use arc_base::{Items, Memory};
 use flat_code::From;
 use hook_code::hook_number;
@@ -62,20 +62,27 @@ pub fn is_copied(how: Use) -> bool
     }
 }
 
-/// A copy of what is found, by a hook or by its bits.
+/// A copy of what is found, by a hook, or what is looked at of it: a blank, or its bits.
 pub fn emit_got(
     code: &mut Items<WordInstr>,
     x: &Scope,
-    hooked: bool,
+    copied: bool,
+    blank: bool,
     ty: Option<TypeId>,
     to: Housed,
     from: Housed,
 ) -> Result<(), Memory>
-    ensures { OnOk result (Puts code.old code.new (got_code (around_of x.now) hooked ty to from)) }
+    ensures { OnOk result (Puts code.old code.new (got_code (around_of x.now) copied blank ty to from)) }
 {
     match ty {
-        Some(ty) if hooked => emit_hook(code, x, Hook::Copies, ty, to.home, from.home),
-        _ => emit_moves(code, to, from),
+        Some(ty) if copied => emit_hook(code, x, Hook::Copies, ty, to.home, from.home),
+        _ => {
+            if blank {
+                emit_clears(code, to)
+            } else {
+                emit_moves(code, to, from)
+            }
+        }
     }
 }
 

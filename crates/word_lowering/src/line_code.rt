@@ -6,7 +6,7 @@ ghost use Rattle.word_lowering.specs.Emission.{Puts};
 ghost use Rattle.word_lowering.specs.LineCode.{part_code, item_at, item_in, element_at, element_in};
 ghost use Rattle.word_lowering.specs.LineCode.{value, own_place, location, held, led, measure_code, entry_from};
 ghost use Rattle.word_lowering.specs.LineCode.{operands, row_code, line_code, lines_code, labels_in};
-ghost use Rattle.word_lowering.specs.LineCode.{applied_code, assigned_code, got_code, is_copied};
+ghost use Rattle.word_lowering.specs.LineCode.{applied_code, assigned_code, got_code, is_copied, is_seen_blank};
 ghost use Rattle.word_lowering.specs.LineCode.{standing_at, behind_line, place, own_alias, root_code};
 ghost use Rattle.word_lowering.specs.Operations.{trap_label};
 ghost use Rattle.word_lowering.specs.Scope.{around_of, HasRoom};
@@ -271,6 +271,14 @@ fn gets_copy(x: &Scope, ty: Option<TypeId>, how: Use) -> bool
     gives_hooked(x.types, ty) && is_copied(how)
 }
 
+// Whether what is looked at is a blank.
+fn is_seen_blank(x: &Scope, ty: Option<TypeId>) -> bool
+    requires { HasRoom (around_of x.now) }
+    ensures { result ≡ is_seen_blank (around_of x.now) ty }
+{
+    gives_hooked(x.types, ty) && !is_text(x.types, ty)
+}
+
 // A copy of what is found, as its use asks.
 fn emit_got_for(
     code: &mut Items<WordInstr>,
@@ -282,11 +290,12 @@ fn emit_got_for(
 ) -> Result<(), Memory>
     requires { HasRoom (around_of x.now) }
     ensures { OnOk result (Puts code.old code.new (got_code (around_of x.now)
-        (gives_hooked x.now.types.now ty && is_copied how.how) ty (value (around_of x.now) to)
-        (location (around_of x.now) from))) }
+        (gives_hooked x.now.types.now ty && is_copied how.how) (is_seen_blank (around_of x.now) ty) ty
+        (value (around_of x.now) to) (location (around_of x.now) from))) }
 {
-    let hooked = gets_copy(x, ty, how.how);
-    emit_got(code, x, hooked, ty, x.value(to), x.location(from))
+    let copied = gets_copy(x, ty, how.how);
+    let blank = is_seen_blank(x, ty);
+    emit_got(code, x, copied, blank, ty, x.value(to), x.location(from))
 }
 
 // A location of a place.
@@ -344,9 +353,9 @@ fn emit_line(code: &mut Items<WordInstr>, x: &Scope, line: &Line, label: u32) ->
         Line::Constant {
             to,
             how,
+            ty,
             pieces,
-            ..
-        } => emit_constant(code, x, how.how, x.value(*to), pieces.as_slice()),
+        } => emit_constant(code, x, how.how, *ty, x.value(*to), pieces.as_slice()),
         Line::Call {
             to,
             ty,

@@ -1,5 +1,5 @@
 // From block code to word code.
-ghost use Rattle.std.specs.Prelude.{◌≡◌, ◌<◌, ◌≤◌, ◌∷◌, ◌++◌, true, length, map, IfOk, OnOk};
+ghost use Rattle.std.specs.Prelude.{◌+◌, ◌≡◌, ◌<◌, ◌≤◌, ◌∷◌, ◌++◌, true, length, map, IfOk, OnOk};
 ghost use Rattle.flat_code.specs.Codes.{block_plain};
 ghost use Rattle.hook_lifting.specs.Lifted.{AreMarked};
 ghost use Rattle.hook_code.specs.HookCode.{procs_in};
@@ -11,7 +11,7 @@ ghost use Rattle.word_lowering.specs.Lowers.{LowersWithRuntime};
 ghost use Rattle.word_lowering.specs.MayLower.{may_lower};
 ghost use Rattle.word_lowering.specs.Scope.{around_of, HasRoom};
 ghost use Rattle.word_lowering.specs.Stored.{HaveForms};
-ghost use Rattle.word_lowering.specs.Texts.{texts_at};
+ghost use Rattle.word_lowering.specs.Texts.{data_at, texts_at};
 
 use crate::calls::proc_number;
 use crate::homes::{Housed, Layout, OWN_FROM};
@@ -211,8 +211,9 @@ fn start_scope<'a>(
     layouts: &'a [Layout],
     own: &'a Layout,
 ) -> Scope<'a>
-    requires { texts_at types.now own.now.free.datum ≤ 4294967295 }
-    ensures { around_of result ≡ around_start types.now texts.now layouts.now own.now }
+    requires room { texts_at types.now own.now.free.datum ≤ 4294967295 }
+    requires from { texts.now.from ≡ data_at + texts_at types.now own.now.free.datum }
+    ensures { around_of result ≡ around_start types.now texts.now.procs layouts.now own.now }
 {
     let ends = own.free.datum;
     let setting = Setting {

@@ -8,7 +8,7 @@ ghost use Rattle.word_lowering.specs.Scope.{HasRoom, around_of};
 use crate::homes::Housed;
 use crate::scope::{Scope, variable_of};
 use crate::sequence_rows::{emit_added, emit_new, emit_popped, emit_sequence, emit_sized, size_in};
-use crate::text_handles::first_type;
+use crate::text_handles::{first_type, second_type};
 use crate::text_rows::{emit_appended, emit_joined, emit_read, emit_shown};
 use arc_base::{Items, Memory};
 use flat_code::From;
@@ -54,7 +54,10 @@ pub fn emit_owned(
             let size = size_in(x, first)?;
             emit_added(code, first.home, size, second)
         }
-        Operation::Append => emit_appended(code, x, of, from),
+        Operation::Append => {
+            let few = lacks(x, from, 2);
+            emit_appended(code, x, few, label, first.home, second_type(of), second)
+        }
         Operation::SetLength => {
             let (n, few) = (variable_of(second), lacks(x, from, 2));
             emit_sized(code, x, few, label, first.ty, first.home, n)

@@ -2,8 +2,8 @@
 ghost use Rattle.std.specs.Prelude.{OnOk, ◌*◌, ◌+◌, ◌≡◌};
 ghost use Rattle.word_lowering.specs.Emission.{Puts};
 ghost use Rattle.word_lowering.specs.LineCode.{operand_at, operands};
-ghost use Rattle.word_lowering.specs.OwnedCode.{bool_name_code, entry_home, entry_text};
-ghost use Rattle.word_lowering.specs.OwnedCode.{handle_code, left_of, letter_code};
+ghost use Rattle.word_lowering.specs.OwnedCode.{bool_name_code, entry_home, entry_of, entry_text};
+ghost use Rattle.word_lowering.specs.OwnedCode.{handle_code, is_char, left_of, letter_code};
 ghost use Rattle.word_lowering.specs.OwnedCode.{literal_home, literal_text, name_handle_code};
 ghost use Rattle.word_lowering.specs.OwnedCode.{name_text, no_text_code, right_of, text_home, text_made};
 ghost use Rattle.word_lowering.specs.OwnedCode.{two_made, type_of};
@@ -39,7 +39,8 @@ pub fn emit_handle(code: &mut Items<WordInstr>, at: u32) -> Result<(), Memory>
     )
 }
 
-fn emit_letter(code: &mut Items<WordInstr>, at: u32, from: u32) -> Result<(), Memory>
+/// Of a character.
+pub fn emit_letter(code: &mut Items<WordInstr>, at: u32, from: u32) -> Result<(), Memory>
     ensures { OnOk result (Puts code.old code.new (letter_code at from)) }
 {
     let letter = sum(at, 8)?;
@@ -174,7 +175,8 @@ pub fn emit_name_text(
     }
 }
 
-fn emit_text_made(
+/// A handle is made where an operand of a type has none.
+pub fn emit_text_made(
     code: &mut Items<WordInstr>,
     x: &Scope,
     at: u32,
@@ -209,12 +211,23 @@ pub fn entry_home(x: &Scope, at: u32, ty: TypeId, from: Housed) -> Home
     }
 }
 
-fn text_home(x: &Scope, at: u32, ty: Option<TypeId>, from: Housed) -> Home
+/// Where the handle is then.
+pub fn text_home(x: &Scope, at: u32, ty: Option<TypeId>, from: Housed) -> Home
     ensures { result ≡ text_home (around_of x.now) at ty from }
 {
     match ty {
         None => Home::Static(at),
         Some(ty) => entry_home(x, at, ty, from),
+    }
+}
+
+/// Whether it is a character.
+pub fn is_char(x: &Scope, ty: Option<TypeId>) -> bool
+    ensures { result ≡ is_char (entry_of x.now.types.now ty) }
+{
+    match ty {
+        None => false,
+        Some(ty) => matches!(entry_at(x.types, ty), Some(TypeDef::Char)),
     }
 }
 
@@ -227,7 +240,7 @@ pub fn first_type(of: &[Option<TypeId>]) -> Option<TypeId>
     }
 }
 
-fn second_type(of: &[Option<TypeId>]) -> Option<TypeId>
+pub fn second_type(of: &[Option<TypeId>]) -> Option<TypeId>
     ensures { result ≡ type_of of.now 1 }
 {
     match of.split_first() {
@@ -248,7 +261,7 @@ pub fn right_of(x: &Scope, of: &[Option<TypeId>], from: &[From]) -> Home
     text_home(x, RIGHT_HANDLE_AT, second_type(of), x.operand_at(from, 1))
 }
 
-pub fn emit_right_made(
+fn emit_right_made(
     code: &mut Items<WordInstr>,
     x: &Scope,
     of: &[Option<TypeId>],

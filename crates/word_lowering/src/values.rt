@@ -3,23 +3,26 @@ ghost use Rattle.std.specs.Prelude.{◌≡◌, [], ◌∷◌, OnOk};
 ghost use Rattle.word_lowering.specs.Emission.{Puts};
 ghost use Rattle.word_lowering.specs.LineCode.{truth_word, unless_zero, pieces_code};
 ghost use Rattle.flat_code.specs.Pieces.{piece_words};
-ghost use Rattle.word_lowering.specs.LineCode.{constant_at, constant_code, parts_code, fields_code};
+ghost use Rattle.word_lowering.specs.LineCode.{built_code, constant_at, constant_code, parts_code};
+ghost use Rattle.word_lowering.specs.LineCode.{fields_code};
 ghost use Rattle.word_lowering.specs.LineCode.{first_word, operands, value};
 ghost use Rattle.word_lowering.specs.Scope.{HasRoom, around_of};
 ghost use Rattle.word_lowering.specs.Spots.{spot_of, clears};
-ghost use Rattle.word_lowering.specs.Stored.{HaveForms};
+ghost use Rattle.word_lowering.specs.Stored.{HaveForms, is_hooked};
 
 use crate::aliases::{is_read, text_in};
 use crate::homes::{FIRST, Home, Housed, SECOND};
+use crate::hook_calls::emit_hook;
 use crate::literals::{emit_lent_text, emit_text_copy};
 use crate::scope::Scope;
 use crate::spots::{
     Spot, address, constant, emit, emit_cleared, emit_clears, emit_moved, shifted, spot_of, store,
     store_sized,
 };
-use crate::stored::part_at;
+use crate::stored::{is_hooked, part_at};
 use arc_base::{Items, Memory};
 use flat_code::{From, Piece};
+use hook_lifting::Hook;
 use nim_program::Use;
 use nim_types::TypeId;
 use rv32_isa::Size;
@@ -60,7 +63,6 @@ fn emit_pieces(code: &mut Items<WordInstr>, to: Home, pieces: &[Piece]) -> Resul
                 to = shifted(4, to)?;
             }
             Piece::Parts(0) => to = shifted(4, to)?,
-            Piece::Elements(0) => to = shifted(4, to)?,
             _ => {}
         }
     }
@@ -75,14 +77,13 @@ fn first_word(pieces: &[Piece]) -> u32
         match piece {
             Piece::Ordinal(z) => return z.cast_unsigned(),
             Piece::Parts(0) => return 0,
-            Piece::Elements(0) => return 0,
             _ => {}
         }
     }
     0
 }
 
-// A constant that is no text.
+// A constant of numbers.
 fn emit_constant_at(code: &mut Items<WordInstr>, to: Housed, pieces: &[Piece]) -> Result<(), Memory>
     ensures { OnOk result (Puts code.old code.new (constant_at to (spot_of to) pieces.now)) }
 {
@@ -103,19 +104,39 @@ fn emit_constant_at(code: &mut Items<WordInstr>, to: Housed, pieces: &[Piece]) -
     }
 }
 
+// One that is no text: a copy of what stands in the data, or built.
+fn emit_built(
+    code: &mut Items<WordInstr>,
+    x: &Scope,
+    ty: TypeId,
+    to: Housed,
+    pieces: &[Piece],
+) -> Result<(), Memory>
+    requires { HasRoom (around_of x.now) }
+    ensures { OnOk result (Puts code.old code.new
+        (built_code (around_of x.now) (is_hooked x.now.types.now ty) ty to pieces.now)) }
+{
+    if is_hooked(x.types, ty) {
+        let from = Home::Static(x.standing_at(pieces)?);
+        return emit_hook(code, x, Hook::Copies, ty, to.home, from);
+    }
+    emit_constant_at(code, to, pieces)
+}
+
 /// The value of a constant.
 pub fn emit_constant(
     code: &mut Items<WordInstr>,
     x: &Scope,
     how: Use,
+    ty: TypeId,
     to: Housed,
     pieces: &[Piece],
 ) -> Result<(), Memory>
     requires { HasRoom (around_of x.now) }
-    ensures { OnOk result (Puts code.old code.new (constant_code (around_of x.now) how to pieces.now)) }
+    ensures { OnOk result (Puts code.old code.new (constant_code (around_of x.now) how ty to pieces.now)) }
 {
     match text_in(pieces) {
-        None => emit_constant_at(code, to, pieces),
+        None => emit_built(code, x, ty, to, pieces),
         Some(text) => {
             if is_read(how) {
                 return emit_lent_text(code, x, to, text);

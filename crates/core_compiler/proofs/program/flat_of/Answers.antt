@@ -36,6 +36,7 @@ returns c =
     (c.sizes.ensures.waiting program plan)
     (c.sizes.ensures.globals program plan typed numbered)
     (λ text. c.sizes.ensures.texts program plan text)
+    (c.sizes.ensures.constants program plan)
     (c.table_forms.ensures table program refl refl typed)
     (c.may_be_lowered.ensures.alike table program refl typed plan)
     (c.may_be_lowered.ensures.built table program refl typed numbered built

@@ -1,3 +1,4 @@
+use Rattle.flattening.proofs.Constants.{constants_most}
 use Rattle.flattening.proofs.DataSizes.{start_most}
 use Rattle.flattening.proofs.Texts.{times_most}
 use Rattle.flattening.proofs.WaitCounts.{all_few}
@@ -15,3 +16,6 @@ returns-clause-globals c = λ program plan typed numbered. start_most program pl
 
 pub returns-clause-texts : goal.returns-clause-texts
 returns-clause-texts c = λ program plan text. times_most text program plan
+
+pub returns-clause-constants : goal.returns-clause-constants
+returns-clause-constants c = λ program plan. constants_most program plan

@@ -1,4 +1,4 @@
-use Rattle.std.proofs.Common.{◌∙◌, ap, ap₂, sym, Some, map}
+use Rattle.std.proofs.Common.{◌∙◌, ap, ap₂, sym, Some, map, false}
 use Rattle.std.specs.Prelude.{◌||◌, not, option_map}
 use Rattle.nim_types.specs.Table.{type_at}
 use Rattle.nim_program.specs.Program.{NoArg, ByValue, Calling, types_in}
@@ -45,6 +45,16 @@ of_expr-returns-in-Construct t c =
     (ap (expr_of ts) given.is ∙ constructed ts given.node given.ty given.fields given.operands)
     (c.or_then-in-Construct.ensures ∙ ap₂ (λ a b. a or_then b)
     (c.if_unbuilt.ensures ∙ ap (λ b. out_if b given.node) (sym (or_false unbuilt))) c.of_operands-in-Construct.ensures)
+
+pub of_expr-returns-in-Constant : goal.of_expr-returns-in-Constant
+of_expr-returns-in-Constant t c =
+    let ts = known_types c.args.known.now in
+    let facts = known_facts c.args.known.now in
+    let given = c.in-Constant in
+    let unbuilt = gives_unbuilt facts (Some (type_at ts given.ty)) in
+    out_as facts (expr_of ts c.args.expr.now) _ c.if_unbuilt-in-Constant.result
+    (ap (expr_of ts) given.is)
+    (c.if_unbuilt-in-Constant.ensures ∙ ap (λ b. out_if b given.node) (sym (or_false unbuilt)) ∙ sym (or_nothing (out_if (unbuilt || false) given.node)))
 
 pub of_expr-returns-in-If : goal.of_expr-returns-in-If
 of_expr-returns-in-If t c =

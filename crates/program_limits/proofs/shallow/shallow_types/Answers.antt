@@ -1,4 +1,4 @@
-use Rattle.std.proofs.Common.{◌≡◌, List, Bool, map, sym, ap, subst, ◌∙◌}
+use Rattle.std.proofs.Common.{◌≡◌, List, Bool, map, ap, subst, ◌∙◌}
 use Rattle.std.specs.Prelude.{IfOk, nat_le}
 use Rattle.program_limits.proofs.Levels.{all_marks}
 use Rattle.program_limits.proofs.shallow.shallow_types.Goals as goal

@@ -1,7 +1,7 @@
-use Rattle.std.proofs.Common.{true, ap, sym, ◌∙◌}
+use Rattle.std.proofs.Common.{ap, sym, ◌∙◌}
 use Rattle.program_limits.specs.Summaries.{above}
 use Rattle.program_limits.proofs.Summing.{elements_is}
 use Rattle.program_limits.proofs.summary.elements_of.Goals as goal
 
 pub returns : goal.returns
-returns c = λ f e. c.above.ensures ∙ ap (λ s. above s.unbuilt true s.levels) e ∙ sym (elements_is f)
+returns c = λ f e. c.above.ensures ∙ ap (λ s. above s.unbuilt s.levels) e ∙ sym (elements_is f)

@@ -4,4 +4,4 @@ use Rattle.program_limits.proofs.Summing.{wrapped_is}
 use Rattle.program_limits.proofs.summary.wrapped_around.Goals as goal
 
 pub returns : goal.returns
-returns c = λ f e. c.above.ensures ∙ ap (λ s. above s.unbuilt s.hooked s.levels) e ∙ sym (wrapped_is f)
+returns c = λ f e. c.above.ensures ∙ ap (λ s. above s.unbuilt s.levels) e ∙ sym (wrapped_is f)

@@ -1,7 +1,7 @@
 use Rattle.std.proofs.Common.{◌≡◌, ◌∙◌, ◌++◌, sym, ap, subst}
 use Rattle.std.specs.Prelude.{OnOk}
 use Rattle.nim_program.specs.View.{literal_of}
-use Rattle.nim_program.proofs.ForCallers.{parts_of, elements_of}
+use Rattle.nim_program.proofs.ForCallers.{parts_of}
 use Rattle.program_limits.specs.Data.{literal_bytes}
 use Rattle.program_limits.proofs.texts.+literal_bytes.Goals as goal
 
@@ -9,9 +9,3 @@ pub push_literal-returns-in-Parts : goal.push_literal-returns-in-Parts
 push_literal-returns-in-Parts t c =
     let whole = ap literal_of c.in-Parts.is ∙ parts_of c.in-Parts.all in
     subst (λ l. OnOk c.push_parts.result (c.push_parts.new.bytes ≡ c.args.bytes.now ++ literal_bytes l)) (sym whole) c.push_parts.ensures
-
-pub push_literal-returns-in-Elements : goal.push_literal-returns-in-Elements
-push_literal-returns-in-Elements t c =
-    let whole = ap literal_of c.in-Elements.is ∙ elements_of c.in-Elements.all in
-    subst (λ l. OnOk c.push_parts-in-Elements.result (c.push_parts-in-Elements.new.bytes ≡ c.args.bytes.now ++ literal_bytes l)) (sym whole)
-    c.push_parts-in-Elements.ensures

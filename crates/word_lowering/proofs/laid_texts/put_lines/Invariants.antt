@@ -1,11 +1,13 @@
 use Rattle.std.proofs.Common.{ℕ, List, ◌≤◌, length, drop}
-use Rattle.word_lowering.specs.LaidTexts.{AreLaid, lines_before}
+use Rattle.word_lowering.specs.LaidTexts.{AreLaid}
+use Rattle.word_lowering.specs.Linked.{lines_before}
 use Rattle.word_lowering.proofs.laid_texts.put_lines.Given as goal
 
 -- those from there on
 abbrev pub invariant-loop-i : goal.invariant-loop-i
 invariant-loop-i l =
-    (l.i ≤ length l.lines) × ((texts : List (List ℕ)) → AreLaid l.from l.initial.laying texts → AreLaid l.from l.laying (lines_before (drop l.i l.lines) texts))
+    (l.i ≤ length l.lines) × ((texts : List (List ℕ)) → AreLaid l.from l.initial.laying texts → AreLaid l.from l.laying (lines_before l.from (drop l.i
+    l.lines) texts))
 
 abbrev pub decreases-loop-i : goal.decreases-loop-i
 decreases-loop-i l = l.i

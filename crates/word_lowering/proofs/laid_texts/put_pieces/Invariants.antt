@@ -1,5 +1,6 @@
 use Rattle.std.proofs.Common.{ℕ, List, ◌≤◌, length, drop}
-use Rattle.word_lowering.specs.LaidTexts.{AreLaid, pieces_before}
+use Rattle.word_lowering.specs.LaidTexts.{AreLaid}
+use Rattle.word_lowering.specs.Linked.{pieces_before}
 use Rattle.word_lowering.proofs.laid_texts.put_pieces.Given as goal
 
 -- those from there on

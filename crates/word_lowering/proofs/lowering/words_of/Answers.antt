@@ -8,6 +8,7 @@ use Rattle.word_lowering.specs.LineCode.{all_labels, proc_number}
 use Rattle.word_lowering.proofs.HookProcs.{HookLaws}
 use Rattle.std.specs.Option.{option_copied}
 use Rattle.word_lowering.specs.declared.texts.TheConstants.{FIXED_BYTES}
+use Rattle.word_lowering.specs.LaidTexts.{LaidCode}
 use Rattle.word_lowering.specs.Lowered.{around_start}
 use Rattle.word_lowering.specs.Scope.{around_of, HasRoom}
 use Rattle.word_lowering.specs.Texts.{padded, laid_texts, data_with}
@@ -19,14 +20,18 @@ use Rattle.word_lowering.proofs.lowering.words_of.Goals as goal
 pub all_procs-requires : goal.all_procs-requires
 all_procs-requires c =
     subst HasRoom
-    (sym (c.start_scope-x.ensures ∙ ap (λ ps. around_start c.args.types.now ps c.args.layouts.now c.in-Some.own.now) c.in_ok-out.ensures.texts))
+    (sym (c.start_scope-x.ensures ∙ ap (λ (code : LaidCode). around_start c.args.types.now code.procs c.args.layouts.now c.in-Some.own.now)
+    c.in_ok-out.ensures.texts))
     (start_room c.args.types.now c.args.blocks.now c.requires.may c.as_slice-procs.result.now c.args.layouts.now c.in-Some.own.now
     c.as_slice-procs.ensures c.requires.layouts (sym c.in-Some.ensures.value) c.requires.forms)
 
-pub start_scope-x-requires : goal.start_scope-x-requires
-start_scope-x-requires c =
+pub start_scope-x-requires-clause-room : goal.start_scope-x-requires-clause-room
+start_scope-x-requires-clause-room c =
     texts_small c.args.types.now c.args.blocks.now c.requires.may c.as_slice-procs.result.now c.args.layouts.now c.in-Some.own.now
     c.as_slice-procs.ensures c.requires.layouts (sym c.in-Some.ensures.value)
+
+pub start_scope-x-requires-clause-from : goal.start_scope-x-requires-clause-from
+start_scope-x-requires-clause-from c = ap (λ (code : LaidCode). code.from) c.in_ok-out.ensures.texts ∙ c.in_ok-from.ensures
 
 pub data-requires : goal.data-requires
 data-requires c =
@@ -60,7 +65,8 @@ returns c =
     whole_by c.args.types.now c.args.blocks.now c.as_slice-procs.result.now c.args.layouts.now
     c.in-Some.own.now c.in-Some-last.start.now (around_of c.start_scope-x.result) all c.in_ok-statics.statics
     c.as_slice-procs.ensures c.requires.layouts (sym c.in-Some.ensures.value) (sym c.in-Some-last.ensures.value)
-    (c.start_scope-x.ensures ∙ ap (λ ps. around_start c.args.types.now ps c.args.layouts.now c.in-Some.own.now) c.in_ok-out.ensures.texts)
+    (c.start_scope-x.ensures ∙ ap (λ (code : LaidCode). around_start c.args.types.now code.procs c.args.layouts.now c.in-Some.own.now)
+    c.in_ok-out.ensures.texts)
     (c.in_ok-push_hooks.ensures
     ∙ ap (λ (l : List WordProc). l ++ procs_in c.args.types.now (proc_number (length c.as_slice-procs.result.now))) c.in_ok-all.ensures)
     (c.in_ok-statics.ensures ∙ ap (λ ts. padded (data_with c.args.types.now c.in-Some.own.now.free.datum ts)) texts)

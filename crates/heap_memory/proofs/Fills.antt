@@ -6,8 +6,9 @@ use Rattle.std.proofs.lemmas.Bool.{cases_eq, leb-true}
 use Rattle.std.proofs.lemmas.List.{length-take, take-take}
 use Rattle.std.proofs.lemmas.Option.{none-some, same_Some}
 use Rattle.nim_meaning.specs.Heap.{Class}
+use Rattle.rv32_isa.specs.Image.{heap_at}
 use Rattle.word_code.specs.Memory.{Memory, bytes_at, may_fill}
-use Rattle.word_code.specs.RoutineTable.{IsRewritten}
+use Rattle.word_code.specs.RoutineTable.{Beside, IsRewritten}
 use Rattle.word_code.proofs.ForCallers.{Sized}
 use Rattle.heap_memory.specs.HeapState.{Standing, Stands, with_block, without_block, IsHeap}
 use Rattle.heap_memory.specs.HeapUse.{IsThere, IsRefilled}
@@ -15,12 +16,19 @@ use Rattle.heap_memory.specs.HeapRoutines.{class_of, fits, IsBesideHeap}
 use Rattle.heap_memory.specs.GrowRoutine.{Owned, Growing, taking, place_of, room_of, holds_it, IsPresent, stands_then, kept_of}
 use Rattle.heap_memory.specs.GrowRoutine.{GrowLeaves, GrowGives}
 use Rattle.heap_memory.specs.AppendRoutine.{with_owned, with_payload, new_block, block_then, classes_behind, stands_behind, IsFilled}
-use Rattle.heap_memory.proofs.ForCallers.{if_same, if_other, size_some}
-use Rattle.heap_memory.proofs.ForCallers.{same_stands}
-use Rattle.refc_runtime.proofs.GrowFacts.{beside_heap}
-use Rattle.heap_memory.proofs.ForCallers.{is_there, refilled, still_heap}
-use Rattle.refc_runtime.proofs.Pieces.{joined_read}
-use Rattle.heap_memory.proofs.ForCallers.{written_in, part_read, part_written}
+use Rattle.heap_memory.proofs.BlockLists.{if_same, if_other, size_some}
+use Rattle.heap_memory.proofs.Sizes.{same_stands}
+use Rattle.heap_memory.proofs.HeapUses.{is_there, refilled, still_heap}
+use Rattle.heap_memory.proofs.Ranges.{written_in, part_read, part_written, joined_read}
+
+-- ---- beside the heap
+
+pub beside_heap : (at : ℕ) (m other : Memory) (a n : ℕ) → heap_at ≤ a → a + n ≤ heap_at + length m.heap → IsRewritten m other a n → IsBesideHeap at m other
+beside_heap at m other a n low high x = record { sizes = x.sizes; beside = λ b k words heap. x.beside b k (sides b k heap) }
+  where
+    sides : (b k : ℕ) → Beside b k heap_at (length m.heap) → Beside b k a n
+    sides b k (inl h) = inl (omega (arith, h, low))
+    sides b k (inr h) = inr (omega (arith, h, high))
 
 -- ---- the front of a block
 
